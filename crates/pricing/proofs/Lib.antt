@@ -1,0 +1,3 @@
+pub mod Rounding
+mod Writes
+pub mod Prices

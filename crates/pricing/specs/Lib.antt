@@ -1,0 +1,4 @@
+pub mod Limits
+pub mod Cents
+pub mod Boards
+pub mod Views

@@ -1,0 +1,18 @@
+-- The limits of prices and quantities.
+use Prim.Native.Nat.{ℕ}
+
+-- No price, and no sum of an interval's two prices, is above this many cents per MW.
+abbrev pub most-price : ℕ
+most-price = 1000000
+
+-- At most so many markets clear.
+abbrev pub most-markets : ℕ
+most-markets = 8
+
+-- An hour has so many intervals.
+abbrev pub intervals-of-an-hour : ℕ
+intervals-of-an-hour = 4
+
+-- No failed quantity is above this many tenths of a MW.
+abbrev pub most-quantity : ℕ
+most-quantity = 200000
