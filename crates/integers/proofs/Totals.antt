@@ -9,7 +9,7 @@ use borrow.Author.Differences.{ints}
 use Rattle.std.proofs.shelf.Lists.{take-more}
 use Rattle.integers.specs.Totals.{total-of, size-of}
 
-total-push : (xs : List ℤ) (y : ℤ) → total-of (xs ++ y ∷ []) ≡ total-of xs +ℤ y
+pub total-push : (xs : List ℤ) (y : ℤ) → total-of (xs ++ y ∷ []) ≡ total-of xs +ℤ y
 total-push [] y = +ℤ-idr y ∙ sym (+ℤ-idl y)
 total-push (x ∷ xs) y = ap (λ z. x +ℤ z) (total-push xs y) ∙ sym (+ℤ-assoc x (total-of xs) y)
 

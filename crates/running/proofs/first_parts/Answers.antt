@@ -3,7 +3,7 @@ use mir.Syntax.{w64}
 use mir.Val.{SFits}
 use borrow.Author.Needs.{needs}
 use Rattle.std.proofs.shelf.Signed.{toZ-ofZ}
-use Rattle.running.proofs.Steps.{product-small, product-fits}
+use Rattle.sharing.proofs.Sizes.{product-small, product-fits}
 use Rattle.running.proofs.first_parts.Needs as need
 
 pub mul-total : need.mul-total

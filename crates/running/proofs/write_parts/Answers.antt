@@ -16,7 +16,7 @@ use Rattle.integers.proofs.Totals.{total-more}
 use Rattle.sharing.specs.Shares.{nth, most-total, most-sizes}
 use Rattle.running.specs.Running.{rounded, first-parts, running}
 use Rattle.running.proofs.Laws.{nobody}
-use Rattle.running.proofs.Steps.{front-small, one-small, whole-small, next-small, product-small}
+use Rattle.sharing.proofs.Sizes.{front-small, one-small, whole-small, next-small, product-small}
 use Rattle.running.proofs.write_parts.Needs as need
 
 pub loop-k-holds : need.loop-k-holds

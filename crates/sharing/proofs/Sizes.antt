@@ -1,4 +1,4 @@
--- The sizes in the running rule's loop, from the range.
+-- The sizes of what the rules work with, from the range.
 use mathlib.Core.Path.{_≡_}
 use mathlib.Core.List.{List}
 use Prim.Native.Nat.{ℕ, _+_, _*_, _≤_, _<_}
