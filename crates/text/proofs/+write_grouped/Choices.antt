@@ -1,0 +1,4 @@
+use Rattle.text.proofs.+write_grouped.Given as given
+
+abbrev pub μ-write-grouped : given.MeasureT-write-grouped
+μ-write-grouped g l = l .groups
