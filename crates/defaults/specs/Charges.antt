@@ -4,8 +4,6 @@ use Prim.Native.Nat.{ℕ, _≤_}
 use lib.Dec.{eqb, ltb}
 use lib.ListN.{length}
 use Rattle.std.specs.declared.option.Option.{Option}
-use Rattle.refusals.specs.declared.Refusal.{Refusal}
-use Rattle.refusals.specs.declared.Refusal.the-variants.{QuantityAboveLimit, DayAheadNotCleared}
 use Rattle.refusals.specs.Refused.{first-of}
 use Rattle.pricing.specs.Boards.{PlainBoard, day-ahead-price, top-price}
 use Rattle.pricing.specs.Cents.{cents-of}
@@ -17,8 +15,8 @@ pub record Takes (board : PlainBoard) (tenths : ℕ) : Type 0 where
   pub cleared : 1 ≤ length (board .prices)
 
 -- It refuses just what it does not take.
-abbrev pub charge-refused : PlainBoard → ℕ → Option Refusal
-charge-refused board tenths = first-of ((ltb most-quantity tenths, QuantityAboveLimit) ∷ (eqb (length (board .prices)) 0, DayAheadNotCleared) ∷ [])
+abbrev pub charge-refused : PlainBoard → ℕ → Option ℕ
+charge-refused board tenths = first-of ((ltb most-quantity tenths, 8) ∷ (eqb (length (board .prices)) 0, 10) ∷ [])
 
 -- The cents of a quantity at the day-ahead price, and at the top price.
 abbrev pub at-day-ahead-price : PlainBoard → ℕ → ℕ

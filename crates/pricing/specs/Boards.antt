@@ -10,8 +10,6 @@ use Rattle.std.specs.Options.{isSome, valueOr}
 use Rattle.std.specs.shelf.Lists.{Every}
 use Rattle.std.specs.declared.option.Option.{Option}
 use Rattle.std.specs.declared.option.Option.the-variants.{Some, None}
-use Rattle.refusals.specs.declared.Refusal.{Refusal}
-use Rattle.refusals.specs.declared.Refusal.the-variants.{NoSuchPlace, PriceAboveLimit}
 use Rattle.refusals.specs.Refused.{first-of}
 use Rattle.pricing.specs.Limits.{most-price, most-markets, intervals-of-an-hour}
 use Rattle.pricing.specs.declared.board.interval.Interval.{Interval}
@@ -42,22 +40,22 @@ empty-board = record { prices = []; intervals = replicate intervals-of-an-hour N
 abbrev pub clearing : PlainBoard → ℕ → PlainBoard
 clearing board price = record { prices = board .prices ++ price ∷ []; intervals = board .intervals }
 
-abbrev pub clearing-refused : PlainBoard → ℕ → Option Refusal
-clearing-refused board price = first-of ((leb most-markets (length (board .prices)), NoSuchPlace) ∷ (ltb most-price price, PriceAboveLimit) ∷ [])
+abbrev pub clearing-refused : PlainBoard → ℕ → Option ℕ
+clearing-refused board price = first-of ((leb most-markets (length (board .prices)), 6) ∷ (ltb most-price price, 7) ∷ [])
 
 -- Correcting: a cleared market's price is replaced.
 abbrev pub correcting : PlainBoard → ℕ → ℕ → PlainBoard
 correcting board market price = record { prices = set (board .prices) market price; intervals = board .intervals }
 
-abbrev pub correcting-refused : PlainBoard → ℕ → ℕ → Option Refusal
-correcting-refused board market price = first-of ((leb (length (board .prices)) market, NoSuchPlace) ∷ (ltb most-price price, PriceAboveLimit) ∷ [])
+abbrev pub correcting-refused : PlainBoard → ℕ → ℕ → Option ℕ
+correcting-refused board market price = first-of ((leb (length (board .prices)) market, 6) ∷ (ltb most-price price, 7) ∷ [])
 
 -- Filing an interval, for the first time or again.
 abbrev pub filing : PlainBoard → ℕ → Interval → PlainBoard
 filing board which interval = record { prices = board .prices; intervals = set (board .intervals) which (Some interval) }
 
-abbrev pub filing-refused : ℕ → Interval → Option Refusal
-filing-refused which interval = first-of ((leb intervals-of-an-hour which, NoSuchPlace) ∷ (ltb most-price (both-prices (Some interval)), PriceAboveLimit) ∷ [])
+abbrev pub filing-refused : ℕ → Interval → Option ℕ
+filing-refused which interval = first-of ((leb intervals-of-an-hour which, 6) ∷ (ltb most-price (both-prices (Some interval)), 7) ∷ [])
 
 -- Whether all four intervals are filed.
 abbrev pub all-filed : List (Option Interval) → Bool

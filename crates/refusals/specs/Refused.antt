@@ -18,17 +18,22 @@ number-of QuantityAboveLimit = 8
 number-of DayAheadNotCleared = 10
 number-of OutsideSharingRange = 19
 
--- Reasons to refuse, in the order in which they are checked, each a test with its refusal: the first that holds refuses.
-abbrev pub first-of : List (Bool × Refusal) → Option Refusal
-first-of [] = None
-first-of (reason ∷ reasons) = cond (reason .0) (Some (reason .1)) (first-of reasons)
+-- The number that an answer shows, none where the call was accepted.
+abbrev pub number-shown : {V : Type 0} → Result V Refusal → Option ℕ
+number-shown (Ok _) = None
+number-shown (Err refusal) = Some (number-of refusal)
 
--- A call that changes a state: refused, it leaves the state as it was; else it leaves the new state.
-abbrev pub Changes : {S : Type 0} → Option Refusal → S → S → Result (Unit {0}) Refusal → S → Type 0
-Changes (Some refusal) new before answer after = (answer ≡ Err refusal) × (after ≡ before)
+-- Tests in the order in which they are checked, each with its number: the first that holds refuses.
+abbrev pub first-of : List (Bool × ℕ) → Option ℕ
+first-of [] = None
+first-of (test ∷ tests) = cond (test .0) (Some (test .1)) (first-of tests)
+
+-- A call that changes a state. Refused, it shows the number and leaves the state as it was; else it leaves the new state.
+abbrev pub Changes : {S : Type 0} → Option ℕ → S → S → Result (Unit {0}) Refusal → S → Type 0
+Changes (Some number) new before answer after = (number-shown answer ≡ Some number) × (after ≡ before)
 Changes None new before answer after = (answer ≡ Ok tt) × (after ≡ new)
 
--- A call that answers a value: refused, it answers the refusal; else the value.
-abbrev pub Gives : {V : Type 0} → Option Refusal → V → Result V Refusal → Type 0
-Gives (Some refusal) value answer = answer ≡ Err refusal
+-- A call that answers a value. Refused, it shows the number; else it answers the value.
+abbrev pub Gives : {V : Type 0} → Option ℕ → V → Result V Refusal → Type 0
+Gives (Some number) value answer = number-shown answer ≡ Some number
 Gives None value answer = answer ≡ Ok value

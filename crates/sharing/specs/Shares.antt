@@ -9,7 +9,7 @@ use Rattle.std.specs.declared.result.Result.{Result}
 use Rattle.std.specs.declared.result.Result.the-variants.{Ok, Err}
 use Rattle.integers.specs.Totals.{total-of, size-of}
 use Rattle.refusals.specs.declared.Refusal.{Refusal}
-use Rattle.refusals.specs.declared.Refusal.the-variants.{OutsideSharingRange}
+use Rattle.refusals.specs.Refused.{number-of}
 
 -- A rule takes at most so many weights,
 abbrev pub most-members : ℕ
@@ -51,4 +51,4 @@ pub record Fair (total : ℤ) (weights parts : List ℤ) : Type 0 where
 -- are not as many as the weights, and then the parts are as they were; else they are the rule's.
 abbrev pub Splits : (ℤ → List ℤ → List ℤ) → ℤ → List ℤ → List ℤ → Result (Unit {0}) Refusal → List ℤ → Type 0
 Splits shares total weights before (Ok _) after = InRange total weights × (length before ≡ length weights) × (after ≡ shares total weights)
-Splits shares total weights before (Err refusal) after = (refusal ≡ OutsideSharingRange) × (after ≡ before) × (InRange total weights → length before ≡ length weights → ⊥)
+Splits shares total weights before (Err refusal) after = (number-of refusal ≡ 19) × (after ≡ before) × (InRange total weights → length before ≡ length weights → ⊥)

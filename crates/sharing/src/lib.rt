@@ -4,7 +4,7 @@
 // than one unit from its exact share, and a weight of 0 gets 0. It refuses just what is out of its range, and then leaves the caller's parts alone.
 // `weight_sum` is the range check that the rules share.
 ghost use Rattle.integers.specs.Totals.{total-of};
-ghost use Rattle.refusals.specs.declared.Refusal.the-variants.{OutsideSharingRange};
+ghost use Rattle.refusals.specs.Refused.{«number-of»};
 ghost use Rattle.sharing.specs.Shares.{InRange, Fair, Splits};
 ghost use Rattle.std.specs.Results.{Cases};
 ghost use lib.IntN.{ℤ};
@@ -35,7 +35,7 @@ pub trait SharingRule {
 
 // The sum of the weights, where a rule takes the total, the weights and as many parts.
 pub fn weight_sum(total: i64, weights: &[i64], parts: usize) -> Result<i64, Refusal>
-    ensures { λ r. ⌜ Cases r (λ whole. InRange total (now (weights .entry)) × (parts ≡ length (now (weights .entry))) × (whole ≡ total-of (now (weights .entry)))) (λ refusal. (refusal ≡ OutsideSharingRange) × (InRange total (now (weights .entry)) → parts ≡ length (now (weights .entry)) → ⊥)) ⌝ }
+    ensures { λ r. ⌜ Cases r (λ whole. InRange total (now (weights .entry)) × (parts ≡ length (now (weights .entry))) × (whole ≡ total-of (now (weights .entry)))) (λ refusal. («number-of» refusal ≡ 19) × (InRange total (now (weights .entry)) → parts ≡ length (now (weights .entry)) → ⊥)) ⌝ }
 {
     let members = weights.len();
     if members < 1
