@@ -77,7 +77,9 @@ impl fmt::Display for Size as SizeDisplay {
     ghost shown = { λ size. Some (size-text (size .cents)) };
 
     fn fmt<W: fmt::Write>(&self, f: &mut fmt::Formatter<W>) -> fmt::Result {
-        let whole = Grouped { number: self.cents / 100 };
+        let whole = Grouped {
+            number: self.cents / 100,
+        };
         let tens = self.cents / 10 % 10;
         let ones = self.cents % 10;
         write!(f, "{whole}.{tens}{ones}")
@@ -88,8 +90,14 @@ pub impl fmt::Display for Dollars as DollarsDisplay {
     ghost shown = { λ amount. Some (dollars-text (amount .cents)) };
 
     fn fmt<W: fmt::Write>(&self, f: &mut fmt::Formatter<W>) -> fmt::Result {
-        let size = Size { cents: self.cents.unsigned_abs() };
-        if self.cents < 0 { write!(f, "-${size}") } else { write!(f, "${size}") }
+        let size = Size {
+            cents: self.cents.unsigned_abs(),
+        };
+        if self.cents < 0 {
+            write!(f, "-${size}")
+        } else {
+            write!(f, "${size}")
+        }
     }
 }
 
@@ -97,7 +105,9 @@ pub impl fmt::Display for Megawatts as MegawattsDisplay {
     ghost shown = { λ quantity. Some (megawatts-text (quantity .tenths)) };
 
     fn fmt<W: fmt::Write>(&self, f: &mut fmt::Formatter<W>) -> fmt::Result {
-        let whole = Grouped { number: (self.tenths / 10) as u64 };
+        let whole = Grouped {
+            number: (self.tenths / 10) as u64,
+        };
         let tenths = self.tenths % 10;
         write!(f, "{whole}.{tenths} MW")
     }

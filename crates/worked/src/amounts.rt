@@ -49,7 +49,9 @@ pub fn charged(price: u32, tenths: u32, hours: u8) -> Result<i64, Stop>
 pub fn paid(price: u32, tenths: u32, hours: u8) -> Result<i64, Stop>
     ensures { λ r. ⌜ made r (λ amount. amount ≡ negℤ (pos (cents-of price tenths) *ℤ pos hours)) ⌝ }
 {
-    charged(price, tenths, hours)?.checked_neg().ok_or(Stop::TooLarge)
+    charged(price, tenths, hours)?
+        .checked_neg()
+        .ok_or(Stop::TooLarge)
 }
 
 // Three parts of a total by a sharing rule.

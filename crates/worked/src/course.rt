@@ -23,9 +23,15 @@ use text::MegawattsDisplay;
 pub fn procurement<W: Write>(out: &mut W) -> Result<(), Stop> {
     let obligation = Megawatts { tenths: 80 };
     let arranged = Megawatts { tenths: 15 };
-    writeln!(out, "\nDay-ahead procurement: regulation down, hour 17")?;
-    writeln!(out, "  DARDAMT = DARDPR * DARDQ, where DARDQ = DARDO - DASARDQ")?;
-    writeln!(out, "  obligation {obligation}, of which {arranged} is self-arranged")?;
+    write_heading(
+        out,
+        "Day-ahead procurement: regulation down, hour 17",
+        "DARDAMT = DARDPR * DARDQ, where DARDQ = DARDO - DASARDQ",
+    )?;
+    writeln!(
+        out,
+        "  obligation {obligation}, of which {arranged} is self-arranged"
+    )?;
     let tenths = obligation.tenths - arranged.tenths;
     let amount = charged(3_800, tenths, 1)?;
     write_priced(out, 3_800, tenths, 1, amount)?;
@@ -33,16 +39,22 @@ pub fn procurement<W: Write>(out: &mut W) -> Result<(), Stop> {
 }
 
 pub fn day_ahead_award<W: Write>(out: &mut W) -> Result<(), Stop> {
-    writeln!(out, "\nDay-ahead award: responsive reserve, hour 16")?;
-    writeln!(out, "  PCRRAMT = (-1) * MCPCRR * PCRR")?;
+    write_heading(
+        out,
+        "Day-ahead award: responsive reserve, hour 16",
+        "PCRRAMT = (-1) * MCPCRR * PCRR",
+    )?;
     let amount = paid(7_700, 550, 1)?;
     write_priced(out, 7_700, 550, 1, amount)?;
     write_amount(out, amount)
 }
 
 pub fn supplemental_award<W: Write>(out: &mut W) -> Result<(), Stop> {
-    writeln!(out, "\nSupplemental award: regulation up, hours 13 to 24")?;
-    writeln!(out, "  RTPCRUAMT = (-1) * MCPCRU * RTPCRU")?;
+    write_heading(
+        out,
+        "Supplemental award: regulation up, hours 13 to 24",
+        "RTPCRUAMT = (-1) * MCPCRU * RTPCRU",
+    )?;
     let early = paid(11_100, 90, 8)?;
     write_priced(out, 11_100, 90, 8, early)?;
     let late = paid(4_600, 90, 4)?;
@@ -51,14 +63,20 @@ pub fn supplemental_award<W: Write>(out: &mut W) -> Result<(), Stop> {
 }
 
 pub fn contingency_failure<W: Write>(out: &mut W) -> Result<(), Stop> {
-    writeln!(out, "\nFailure: contingency reserve, hour 18")?;
-    writeln!(out, "  ECRFQAMT = max(MCPCECR, AVGRTASIP) * (ECRFQ + TECRFQ)")?;
+    write_heading(
+        out,
+        "Failure: contingency reserve, hour 18",
+        "ECRFQAMT = max(MCPCECR, AVGRTASIP) * (ECRFQ + TECRFQ)",
+    )?;
     failure(out, &[4_500, 9_800], 300, 290)
 }
 
 pub fn non_spin_failure<W: Write>(out: &mut W) -> Result<(), Stop> {
-    writeln!(out, "\nFailure: non-spin reserve, one hour")?;
-    writeln!(out, "  NSFQAMT = max(MCPCNS, AVGRTASIP) * (NSFQ + TNSFQ)")?;
+    write_heading(
+        out,
+        "Failure: non-spin reserve, one hour",
+        "NSFQAMT = max(MCPCNS, AVGRTASIP) * (NSFQ + TNSFQ)",
+    )?;
     failure(out, &[3_000, 30_000, 300_000], 90_000, 250)
 }
 
@@ -78,21 +96,35 @@ fn board_with(prices: &[u32], average: u32) -> Result<Board, Refusal> {
         board.clear(*price)?;
     }
     for which in 0..INTERVALS {
-        board.interval(which, Interval { online: average, reliability: 0 })?;
+        board.interval(
+            which,
+            Interval {
+                online: average,
+                reliability: 0,
+            },
+        )?;
     }
     Ok(board)
 }
 
 pub fn infeasible<W: Write>(out: &mut W) -> Result<(), Stop> {
-    writeln!(out, "\nInfeasible quantity: regulation down, hours 15 to 24")?;
-    writeln!(out, "  RDINFQAMT = MCPCRD * RDINFQ")?;
+    write_heading(
+        out,
+        "Infeasible quantity: regulation down, hours 15 to 24",
+        "RDINFQAMT = MCPCRD * RDINFQ",
+    )?;
     let early = infeasible_hours(out, 5_500, 140, 5)?;
     let late = infeasible_hours(out, 2_300, 140, 5)?;
     write_amount(out, early.checked_add(late).ok_or(Stop::TooLarge)?)
 }
 
 // An infeasible quantity by the day-ahead rule, over some hours at one day-ahead price.
-fn infeasible_hours<W: Write>(out: &mut W, price: u32, tenths: u32, hours: u8) -> Result<i64, Stop> {
+fn infeasible_hours<W: Write>(
+    out: &mut W,
+    price: u32,
+    tenths: u32,
+    hours: u8,
+) -> Result<i64, Stop> {
     let mut board = Board::new();
     board.clear(price)?;
     let each = i64::try_from(DayAhead::charged(&board, tenths)?)?;
@@ -105,23 +137,43 @@ fn infeasible_hours<W: Write>(out: &mut W, price: u32, tenths: u32, hours: u8) -
 pub fn write_board<W: Write>(out: &mut W, board: &Board) -> Result<(), Stop> {
     for market in 0..board.cleared() {
         if let Some(price) = board.price(market) {
-            let price = Dollars { cents: i64::from(price) };
+            let price = Dollars {
+                cents: i64::from(price),
+            };
             writeln!(out, "  market {market} cleared at {price} per MW")?;
         }
     }
     if let Some(average) = board.average() {
-        let average = Dollars { cents: i64::from(average) };
+        let average = Dollars {
+            cents: i64::from(average),
+        };
         writeln!(out, "  average real-time price {average} per MW")?;
     }
     Ok(())
 }
 
-fn write_priced<W: Write>(out: &mut W, price: u32, tenths: u32, hours: u8, cents: i64) -> Result<(), Stop> {
+pub fn write_heading<W: Write>(out: &mut W, title: &str, equation: &str) -> Result<(), Stop> {
+    writeln!(out, "\n{title}\n  {equation}")?;
+    Ok(())
+}
+
+fn write_priced<W: Write>(
+    out: &mut W,
+    price: u32,
+    tenths: u32,
+    hours: u8,
+    cents: i64,
+) -> Result<(), Stop> {
     let quantity = Megawatts { tenths };
-    let price = Dollars { cents: i64::from(price) };
+    let price = Dollars {
+        cents: i64::from(price),
+    };
     let amount = Dollars { cents };
     let unit = if hours == 1 { "hour" } else { "hours" };
-    writeln!(out, "  {hours} {unit}, {quantity} at {price} per MW: {amount}")?;
+    writeln!(
+        out,
+        "  {hours} {unit}, {quantity} at {price} per MW: {amount}"
+    )?;
     Ok(())
 }
 

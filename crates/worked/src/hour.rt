@@ -7,6 +7,7 @@ use crate::amounts::charged;
 use crate::amounts::sum;
 use crate::amounts::three_parts;
 use crate::course::write_board;
+use crate::course::write_heading;
 use defaults::DayAhead;
 use defaults::DayAheadRule;
 use defaults::DefaultRule;
@@ -23,20 +24,33 @@ use text::MegawattsDisplay;
 
 // The course's cost allocation: non-spin reserve bought day-ahead and in one supplemental market, less what an infeasible quantity is charged.
 pub fn settle<W: Write>(out: &mut W) -> Result<(), Stop> {
-    writeln!(out, "\nOne hour from beginning to end: non-spin reserve, hour 7")?;
-    writeln!(out, "  NSCOST = NSPR * NSQ, where NSPR = NSCOSTTOT / NSQTOT")?;
+    write_heading(
+        out,
+        "One hour from beginning to end: non-spin reserve, hour 7",
+        "NSCOST = NSPR * NSQ, where NSPR = NSCOSTTOT / NSQTOT",
+    )?;
     let board = corrected_board(out)?;
     let day_ahead = charged(board.day_ahead_price(), 9_900, 1)?;
     write_cost(out, "bought day-ahead", 9_900, day_ahead)?;
     let supplemental = charged(board.top_price(), 100, 1)?;
     write_cost(out, "bought in the supplemental market", 100, supplemental)?;
     let infeasible = i64::try_from(DayAhead::charged(&board, 100)?)?;
-    write_cost(out, "infeasible, charged at the day-ahead price", 100, infeasible)?;
+    write_cost(
+        out,
+        "infeasible, charged at the day-ahead price",
+        100,
+        infeasible,
+    )?;
     let bought = day_ahead.checked_add(supplemental).ok_or(Stop::TooLarge)?;
     let net = bought.checked_sub(infeasible).ok_or(Stop::TooLarge)?;
-    let bought_quantity = Megawatts { tenths: 9_900 + 100 };
+    let bought_quantity = Megawatts {
+        tenths: 9_900 + 100,
+    };
     let net_cost = Dollars { cents: net };
-    writeln!(out, "  net cost {net_cost} for {bought_quantity} bought, shared by open quantity")?;
+    writeln!(
+        out,
+        "  net cost {net_cost} for {bought_quantity} bought, shared by open quantity"
+    )?;
     write_shares(out, net, [1_010, 3_333, 5_657])
 }
 
@@ -47,7 +61,9 @@ fn corrected_board<W: Write>(out: &mut W) -> Result<Board, Stop> {
     board.clear(12_000)?;
     write_board(out, &board)?;
     board.correct(0, 1_000)?;
-    let corrected = Dollars { cents: i64::from(board.day_ahead_price()) };
+    let corrected = Dollars {
+        cents: i64::from(board.day_ahead_price()),
+    };
     writeln!(out, "  market 0 corrected to {corrected} per MW")?;
     Ok(board)
 }
@@ -61,18 +77,34 @@ fn write_cost<W: Write>(out: &mut W, what: &str, tenths: u32, cents: i64) -> Res
 
 // The shares of a cost under both rules, and what they add up to.
 fn write_shares<W: Write>(out: &mut W, cents: i64, open_tenths: [u32; 3]) -> Result<(), Stop> {
-    let weights = [i64::from(open_tenths[0]), i64::from(open_tenths[1]), i64::from(open_tenths[2])];
+    let weights = [
+        i64::from(open_tenths[0]),
+        i64::from(open_tenths[1]),
+        i64::from(open_tenths[2]),
+    ];
     let running = three_parts::<Running>(cents, weights)?;
     let largest = three_parts::<LargestRemainder>(cents, weights)?;
     for k in 0..3 {
-        let open = Megawatts { tenths: open_tenths[k] };
+        let open = Megawatts {
+            tenths: open_tenths[k],
+        };
         let first = Dollars { cents: running[k] };
         let second = Dollars { cents: largest[k] };
-        writeln!(out, "  {open} open: running {first}, largest remainder {second}")?;
+        writeln!(
+            out,
+            "  {open} open: running {first}, largest remainder {second}"
+        )?;
     }
-    let first = Dollars { cents: sum(running)? };
-    let second = Dollars { cents: sum(largest)? };
-    writeln!(out, "  together: running {first}, largest remainder {second}")?;
+    let first = Dollars {
+        cents: sum(running)?,
+    };
+    let second = Dollars {
+        cents: sum(largest)?,
+    };
+    writeln!(
+        out,
+        "  together: running {first}, largest remainder {second}"
+    )?;
     Ok(())
 }
 

@@ -15,5 +15,5 @@ returns g t c =
     let e = more-groups (c .args .groups) (c .args .number) (omega arith) (c .if-number-lt1000 .left) in
     rw e
     (λ plain ok.
-      let front = c .in-Continue-write-grouped .ensures tt plain refl in
-      put-more (g .W·Write .took) _ _ _ _ _ front (c .write-2 .ensures .shows (front .plain) ok))
+    let front = c .in-Continue-write-grouped .ensures tt plain refl in
+    put-more (g .W·Write .took) _ _ _ _ _ front (c .write-2 .ensures .shows (front .plain) ok))
