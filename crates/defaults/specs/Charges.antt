@@ -7,7 +7,10 @@ use Rattle.std.specs.declared.option.Option.{Option}
 use Rattle.refusals.specs.Refused.{first-of}
 use Rattle.pricing.specs.Boards.{PlainBoard, day-ahead-price, top-price}
 use Rattle.pricing.specs.Cents.{cents-of}
-use Rattle.pricing.specs.Limits.{most-quantity}
+
+-- The largest quantity that a default rule takes, in tenths of a MW.
+abbrev pub most-quantity : ℕ
+most-quantity = 200000
 
 -- A default rule takes a quantity up to the limit, and a board on which a market has cleared.
 pub record Takes (board : PlainBoard) (tenths : ℕ) : Type 0 where
@@ -18,10 +21,11 @@ pub record Takes (board : PlainBoard) (tenths : ℕ) : Type 0 where
 abbrev pub charge-refused : PlainBoard → ℕ → Option ℕ
 charge-refused board tenths = first-of ((ltb most-quantity tenths, 8) ∷ (eqb (length (board .prices)) 0, 10) ∷ [])
 
--- The cents of a quantity at the day-ahead price, and at the top price.
+-- The cents of a quantity at the day-ahead price.
 abbrev pub at-day-ahead-price : PlainBoard → ℕ → ℕ
 at-day-ahead-price board tenths = cents-of (day-ahead-price board) tenths
 
+-- The cents of a quantity at the top price.
 abbrev pub at-top-price : PlainBoard → ℕ → ℕ
 at-top-price board tenths = cents-of (top-price board) tenths
 

@@ -10,8 +10,10 @@ ghost use Rattle.refusals.specs.Refused.{Gives};
 ghost use Prim.Native.Nat.{ℕ};
 use pricing::board::Board;
 use pricing::cents::cents;
-use pricing::limits::MOST_QUANTITY;
 use refusals::Refusal;
+
+// The largest quantity that a default rule takes, in tenths of a MW.
+pub const MOST_QUANTITY: u32 = 200_000;
 
 pub trait DefaultRule {
     // The cents charged for a board and a quantity in tenths of a MW.

@@ -12,20 +12,23 @@ use Rattle.std.specs.shelf.Lists.{countBy}
 use Rattle.integers.specs.Totals.{total-of}
 use Rattle.sharing.specs.Shares.{nth}
 
--- Total times weight divided by the weight sum W, rounded toward minus infinity, and what that leaves.
+-- Total times weight divided by the weight sum W, rounded toward minus infinity.
 unfoldable pub floor-of : ℤ → ℤ → ℤ → ℤ
 floor-of total W weight = divEuclid (total *ℤ weight) W
 
+-- What that division leaves.
 unfoldable pub remainder-of : ℤ → ℤ → ℤ → ℕ
 remainder-of total W weight = natAbs (remEuclid (total *ℤ weight) W)
 
+-- Each member's part rounded down.
 abbrev pub floors : ℤ → List ℤ → List ℤ
 floors total weights = map (floor-of total (total-of weights)) weights
 
+-- Each member's remainder.
 abbrev pub remainders : ℤ → List ℤ → List ℕ
 remainders total weights = map (remainder-of total (total-of weights)) weights
 
--- The units that rounding down leaves missing of the total.
+-- The units that rounding down leaves missing of the total, which it never passes.
 abbrev pub missing-units : ℤ → List ℤ → ℕ
 missing-units total weights = natAbs (total -ℤ total-of (floors total weights))
 
@@ -37,6 +40,7 @@ ahead-of rests k = countBy (leb (getD rests k 0)) (take k rests) + countBy (ltb 
 abbrev pub unit-for : ℕ → List ℕ → ℕ → ℕ
 unit-for units rests k = cond (ltb (ahead-of rests k) units) 1 0
 
+-- Each member's part rounded down, and its unit where it gets one.
 abbrev pub largest-remainder : ℤ → List ℤ → List ℤ
 largest-remainder total weights =
     map (λ k. nth (floors total weights) k +ℤ pos (unit-for (missing-units total weights) (remainders total weights) k)) (counting 0 (length weights))

@@ -1,4 +1,4 @@
--- The limits of prices and quantities.
+-- The limits of the price board.
 use Prim.Native.Nat.{ℕ}
 
 -- No price, and no sum of an interval's two prices, is above this many cents per MW.
@@ -12,7 +12,3 @@ most-markets = 8
 -- An hour has so many intervals.
 abbrev pub intervals-of-an-hour : ℕ
 intervals-of-an-hour = 4
-
--- No failed quantity is above this many tenths of a MW.
-abbrev pub most-quantity : ℕ
-most-quantity = 200000

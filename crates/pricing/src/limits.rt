@@ -1,4 +1,4 @@
-// The limits that the price board and the default rules keep.
+// The limits that the price board keeps.
 
 // In cents per MW.
 pub const MOST_PRICE: u32 = 1_000_000;
@@ -8,6 +8,3 @@ pub const MOST_MARKETS: usize = 8;
 
 // The quarter hours of an hour.
 pub const INTERVALS: usize = 4;
-
-// In tenths of a MW.
-pub const MOST_QUANTITY: u32 = 200_000;

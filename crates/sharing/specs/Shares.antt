@@ -11,19 +11,19 @@ use Rattle.integers.specs.Totals.{total-of, size-of}
 use Rattle.refusals.specs.declared.Refusal.{Refusal}
 use Rattle.refusals.specs.Refused.{number-of}
 
--- A rule takes at most so many weights,
+-- The most weights that a rule takes.
 abbrev pub most-members : ℕ
 most-members = 64
 
--- a total of at most so much either way,
+-- The largest total that a rule takes, either way.
 abbrev pub most-total : ℕ
 most-total = 30000000000
 
--- and weights whose sizes without sign add up to at most so much.
+-- The most that the sizes of the weights without sign add up to.
 abbrev pub most-sizes : ℕ
 most-sizes = 1000000
 
--- What a rule takes: the weight sum is at least 1.
+-- The range of every rule.
 pub record InRange (total : ℤ) (weights : List ℤ) : Type 0 where
   pub some-members : 1 ≤ length weights
   pub few-members : length weights ≤ most-members
@@ -31,7 +31,7 @@ pub record InRange (total : ℤ) (weights : List ℤ) : Type 0 where
   pub small-sizes : size-of weights ≤ most-sizes
   pub whole : pos 1 ≤ℤ total-of weights
 
--- The member at k has this part, or this weight.
+-- What stands at place k of the parts or of the weights.
 abbrev pub nth : List ℤ → ℕ → ℤ
 nth numbers k = getD numbers k (pos 0)
 
@@ -47,8 +47,17 @@ pub record Fair (total : ℤ) (weights parts : List ℤ) : Type 0 where
   -- a weight of 0 gets 0
   pub none-for-none : (k : ℕ) → k < length weights → nth weights k ≡ pos 0 → nth parts k ≡ pos 0
 
--- How a split of a total by weights into the caller's parts answers, and what it leaves there. It refuses exactly outside the range, or where the parts
--- are not as many as the weights, and then the parts are as they were; else they are the rule's.
+-- A split takes a total and weights in range, and as many parts as weights.
+pub record Takes (total : ℤ) (weights : List ℤ) (part-count : ℕ) : Type 0 where
+  pub range : InRange total weights
+  pub as-many : part-count ≡ length weights
+
+-- How the range check answers: the weight sum where a rule takes them, else a refusal.
+abbrev pub Checks : ℤ → List ℤ → ℕ → Result ℤ Refusal → Type 0
+Checks total weights part-count (Ok whole) = Takes total weights part-count × (whole ≡ total-of weights)
+Checks total weights part-count (Err refusal) = (Takes total weights part-count → ⊥) × (number-of refusal ≡ 19)
+
+-- How a split answers, and what it makes of the caller's parts: the rule's parts where it takes them; else they stay as they were.
 abbrev pub Splits : (ℤ → List ℤ → List ℤ) → ℤ → List ℤ → List ℤ → Result (Unit {0}) Refusal → List ℤ → Type 0
-Splits shares total weights before (Ok _) after = InRange total weights × (length before ≡ length weights) × (after ≡ shares total weights)
-Splits shares total weights before (Err refusal) after = (number-of refusal ≡ 19) × (after ≡ before) × (InRange total weights → length before ≡ length weights → ⊥)
+Splits shares total weights before (Ok _) after = Takes total weights (length before) × (after ≡ shares total weights)
+Splits shares total weights before (Err refusal) after = (Takes total weights (length before) → ⊥) × (number-of refusal ≡ 19) × (after ≡ before)

@@ -3,14 +3,9 @@
 // Every rule promises one list of parts for each total and weights in its range, and three laws of them: the parts add up to the total, each is less
 // than one unit from its exact share, and a weight of 0 gets 0. It refuses just what is out of its range, and then leaves the caller's parts alone.
 // `weight_sum` is the range check that the rules share.
-ghost use Rattle.integers.specs.Totals.{total-of};
-ghost use Rattle.refusals.specs.Refused.{«number-of»};
-ghost use Rattle.sharing.specs.Shares.{InRange, Fair, Splits};
-ghost use Rattle.std.specs.Results.{Cases};
+ghost use Rattle.sharing.specs.Shares.{Checks, Fair, InRange, Splits};
 ghost use lib.IntN.{ℤ};
-ghost use lib.ListN.{length};
 ghost use mathlib.Core.List.{List};
-ghost use mathlib.Core.Path.{_≡_};
 use integers::total_within;
 use refusals::Refusal;
 
@@ -34,13 +29,13 @@ pub trait SharingRule {
 }
 
 // The sum of the weights, where a rule takes the total, the weights and as many parts.
-pub fn weight_sum(total: i64, weights: &[i64], parts: usize) -> Result<i64, Refusal>
-    ensures { λ r. ⌜ Cases r (λ whole. InRange total (now (weights .entry)) × (parts ≡ length (now (weights .entry))) × (whole ≡ total-of (now (weights .entry)))) (λ refusal. («number-of» refusal ≡ 19) × (InRange total (now (weights .entry)) → parts ≡ length (now (weights .entry)) → ⊥)) ⌝ }
+pub fn weight_sum(total: i64, weights: &[i64], part_count: usize) -> Result<i64, Refusal>
+    ensures { λ r. ⌜ Checks total (now (weights .entry)) «part_count» r ⌝ }
 {
     let members = weights.len();
     if members < 1
         || members > MOST_MEMBERS
-        || members != parts
+        || members != part_count
         || total.unsigned_abs() > MOST_TOTAL
     {
         return Err(Refusal::OutsideSharingRange);

@@ -1,6 +1,5 @@
-ghost use Rattle.pricing.specs.Boards.{empty-board, clearing, clearing-refused, correcting, correcting-refused, filing, filing-refused};
+ghost use Rattle.pricing.specs.Boards.{Clears, Corrects, Files, empty-board};
 ghost use Rattle.pricing.specs.Views.{plain};
-ghost use Rattle.refusals.specs.Refused.{Changes};
 ghost use mathlib.Core.Path.{_≡_};
 use crate::board::Board;
 use crate::board::interval::Interval;
@@ -22,7 +21,7 @@ impl Board {
 
     // The next market gets its price.
     pub fn clear(&mut self, price: u32) -> Result<(), Refusal>
-        ensures { λ r. ⌜ Changes (clearing-refused (plain (now (self .entry))) price) (clearing (plain (now (self .entry))) price) (plain (now (self .entry))) r (plain (now (self .exit))) ⌝ }
+        ensures { λ r. ⌜ Clears (plain (now (self .entry))) price r (plain (now (self .exit))) ⌝ }
     {
         if self.cleared >= MOST_MARKETS {
             return Err(Refusal::NoSuchPlace);
@@ -39,7 +38,7 @@ impl Board {
 
     // A cleared market's price is replaced.
     pub fn correct(&mut self, market: usize, price: u32) -> Result<(), Refusal>
-        ensures { λ r. ⌜ Changes (correcting-refused (plain (now (self .entry))) market price) (correcting (plain (now (self .entry))) market price) (plain (now (self .entry))) r (plain (now (self .exit))) ⌝ }
+        ensures { λ r. ⌜ Corrects (plain (now (self .entry))) market price r (plain (now (self .exit))) ⌝ }
     {
         if market >= self.cleared {
             return Err(Refusal::NoSuchPlace);
@@ -55,7 +54,7 @@ impl Board {
 
     // An interval is filed, for the first time or again.
     pub fn interval(&mut self, which: usize, interval: Interval) -> Result<(), Refusal>
-        ensures { λ r. ⌜ Changes (filing-refused which interval) (filing (plain (now (self .entry))) which interval) (plain (now (self .entry))) r (plain (now (self .exit))) ⌝ }
+        ensures { λ r. ⌜ Files (plain (now (self .entry))) which interval r (plain (now (self .exit))) ⌝ }
     {
         if which >= INTERVALS {
             return Err(Refusal::NoSuchPlace);
