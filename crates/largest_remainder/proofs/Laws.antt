@@ -62,7 +62,7 @@ module _ (total W : ℤ) (positive : pos 1 ≤ℤ W) where
       more : (x X p z Z q : ℤ) (r s u : ℕ) → x +ℤ pos r ≡ z → X +ℤ pos s ≡ Z → p ≡ x +ℤ X → q ≡ z +ℤ Z → u ≡ r + s → p +ℤ pos u ≡ q
       more x X p z Z q r s u e f g h i = omega (arith, ints)
 
-  all-under : (weights : List ℤ) (k : ℕ) → getD (map (remainder-of total W) weights) k 0 < natAbs W
+  pub all-under : (weights : List ℤ) (k : ℕ) → getD (map (remainder-of total W) weights) k 0 < natAbs W
   all-under [] k = omega (arith, ints)
   all-under (weight ∷ weights) zero = remainder-under weight
   all-under (weight ∷ weights) (suc k) = all-under weights k

@@ -10,7 +10,7 @@ ghost use Rattle.std.specs.Iters.{counting};
 ghost use Rattle.std.specs.shelf.Lists.{countBy};
 ghost use lib.Dec.{leb};
 ghost use lib.IntN.{pos, natAbs, _+ℤ_};
-ghost use lib.ListN.{length};
+ghost use lib.ListN.{getD, length};
 ghost use lib.Signed.{_≤ℤ_};
 ghost use mathlib.Core.List.{map};
 ghost use mathlib.Core.Path.{_≡_};
@@ -33,13 +33,14 @@ pub impl SharingRule for LargestRemainder as LargestRemainderRule {
 }
 
 // How many numbers are at least `least`.
-fn count_from(numbers: &[u32], least: u64) -> usize
+fn count_from(numbers: &[u32], least: u32) -> u32
+    requires { ⌜ length (now numbers) ≤ most-members ⌝ }
     ensures value { λ r. ⌜ r ≡ countBy (leb least) (now (numbers .entry)) ⌝ }
     ensures bound { λ r. ⌜ r ≤ length (now (numbers .entry)) ⌝ }
 {
     let mut count = 0;
     for number in numbers {
-        if *number as u64 >= least {
+        if *number >= least {
             count += 1;
         }
     }
@@ -47,17 +48,21 @@ fn count_from(numbers: &[u32], least: u64) -> usize
 }
 
 // How many members come before the member at k.
-fn come_before(rests: &[u32], k: usize) -> usize
-    requires { ⌜ k < length (now rests) ⌝ }
+fn come_before(rests: &[u32], k: usize) -> u32
+    requires few { ⌜ length (now rests) ≤ most-members ⌝ }
+    requires low { ⌜ ((j : ℕ) → getD (now rests) j 0 < most-sizes) ⌝ }
+    requires inside { ⌜ k < length (now rests) ⌝ }
     ensures { λ r. ⌜ r ≡ ahead-of (now (rests .entry)) k ⌝ }
 {
-    let rest = rests[k] as u64;
+    let rest = rests[k];
     count_from(&rests[0..k], rest) + count_from(&rests[k + 1..], rest + 1)
 }
 
 // One unit for the member at k where fewer members come before it than units are missing, else none.
 fn unit(missing: u64, rests: &[u32], k: usize) -> i64
-    requires { ⌜ k < length (now rests) ⌝ }
+    requires few { ⌜ length (now rests) ≤ most-members ⌝ }
+    requires low { ⌜ ((j : ℕ) → getD (now rests) j 0 < most-sizes) ⌝ }
+    requires inside { ⌜ k < length (now rests) ⌝ }
     ensures { λ r. ⌜ r ≡ pos (unit-for missing (now (rests .entry)) k) ⌝ }
 {
     if (come_before(rests, k) as u64) < missing {
@@ -69,8 +74,10 @@ fn unit(missing: u64, rests: &[u32], k: usize) -> i64
 
 // Hands the missing units out on top of the parts.
 fn hand_out(missing: u64, rests: &[u32], parts: &mut [i64])
+    requires few { ⌜ length (now rests) ≤ most-members ⌝ }
+    requires low { ⌜ ((j : ℕ) → getD (now rests) j 0 < most-sizes) ⌝ }
     requires long { ⌜ length (now parts) ≡ length (now rests) ⌝ }
-    requires small { ⌜ ((k : ℕ) → natAbs (nth (now parts) k) ≤ most-total * most-sizes) ⌝ }
+    requires small { ⌜ ((j : ℕ) → natAbs (nth (now parts) j) ≤ most-total * most-sizes) ⌝ }
     ensures { λ _. ⌜ now (parts .exit) ≡ map (λ k. nth (now (parts .entry)) k +ℤ pos (unit-for missing (now (rests .entry)) k)) (counting 0 (length (now (rests .entry)))) ⌝ }
 {
     for k in 0..rests.len() {

@@ -1,5 +1,6 @@
 use mathlib.Core.Path.{_≡_, ap, _∙_}
 use mathlib.Core.List.{map}
+use native.Mathlib.Omega.{arith}
 use lib.ListN.{length, length-map}
 use lib.IntN.{pos, _+ℤ_}
 use mir.Syntax.{w64}
@@ -9,7 +10,8 @@ use Rattle.std.proofs.shelf.Signed.{toZ-ofZ}
 use Rattle.integers.specs.Totals.{total-of}
 use Rattle.sharing.specs.Shares.{nth}
 use Rattle.largest_remainder.specs.Largest.{remainder-of, floors, remainders, missing-units, unit-for}
-use Rattle.largest_remainder.proofs.Laws.{floors-small}
+use Rattle.sharing.proofs.Sizes.{whole-small}
+use Rattle.largest_remainder.proofs.Laws.{all-under, floors-small}
 use Rattle.largest_remainder.proofs.write_parts.Needs as need
 
 pub hand-out-requires : need.hand-out-requires
@@ -17,8 +19,11 @@ hand-out-requires c κs =
     let weights = c .args .weights .now in
     let total-is = toZ-ofZ w64 (c .args .total) (c .fits .total) in
     let floors-are : c .round-down-missing .last .parts ≡ floors (c .args .total) weights = c .round-down-missing .ensures .floors ∙ ap (λ t. floors t weights) total-is in
+    let rests-are : c .round-down-missing .last .rests ≡ remainders (c .args .total) weights = c .round-down-missing .ensures .rests ∙ ap (λ t. remainders t weights) total-is in
     let range = c .pre .range in
     record {
+      few = omega (arith, range .few-members, c .pre .beside);
+      low = λ j. rw rests-are (omega (arith, all-under (c .args .total) (total-of weights) (range .whole) weights j, whole-small (c .args .total) weights range));
       long = search needs;
       small = λ k. rw floors-are (floors-small (c .args .total) (total-of weights) weights (range .whole) (range .small-total) (range .small-sizes) k);
     }
