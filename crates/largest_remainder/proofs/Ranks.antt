@@ -125,10 +125,3 @@ units-add-up units (x ∷ xs) few =
 
         none : (r a : ℕ) → r ≤ x → countBy (ltb x) xs ≤ a → one-if (ltb (one-if (leb r x) + a) units) ≡ one-if (ltb a units)
         none r a within o = grind (arith, tells)
-
-pub unit-at-most-one : (units : ℕ) (rests : List ℕ) (k : ℕ) → unit-for units rests k ≤ 1
-unit-at-most-one units rests k = at-most (ltb (ahead-of rests k) units)
-  where
-    at-most : (b : Bool) → one-if b ≤ 1
-    at-most true = omega arith
-    at-most false = omega arith

@@ -63,7 +63,8 @@ fn unit(missing: u64, rests: &[u32], k: usize) -> i64
     requires few { ⌜ length (now rests) ≤ most-members ⌝ }
     requires low { ⌜ ((j : ℕ) → getD (now rests) j 0 < most-sizes) ⌝ }
     requires inside { ⌜ k < length (now rests) ⌝ }
-    ensures { λ r. ⌜ r ≡ pos (unit-for missing (now (rests .entry)) k) ⌝ }
+    ensures value { λ r. ⌜ r ≡ pos (unit-for missing (now (rests .entry)) k) ⌝ }
+    ensures bound { λ r. ⌜ natAbs r ≤ 1 ⌝ }
 {
     if (come_before(rests, k) as u64) < missing {
         1

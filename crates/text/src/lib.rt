@@ -7,13 +7,13 @@ ghost use Rattle.text.specs.Texts.{three-digits, grouped-by, most-groups, size
 use std::fmt;
 
 // An amount in cents, as dollars: -$4,235.00.
-#[derive(Clone, Copy, PartialEq, Eq, Debug)]
+#[derive(Clone, Copy)]
 pub struct Dollars {
     pub cents: i64,
 }
 
 // A quantity in tenths of a MW: 1,000.0 MW.
-#[derive(Clone, Copy, PartialEq, Eq, Debug)]
+#[derive(Clone, Copy)]
 pub struct Megawatts {
     pub tenths: u32,
 }

@@ -1,12 +1,10 @@
 // The amounts that the examples are made of, and what can stop the program.
 ghost use Rattle.integers.specs.Totals.{total-of};
-ghost use Rattle.pricing.specs.Cents.{cents-of};
 ghost use Rattle.sharing.specs.Shares.{Fair};
 ghost use Rattle.std.specs.Vec.{made};
 ghost use lib.IntN.{pos, negℤ, _*ℤ_};
 ghost use mathlib.Core.Path.{_≡_};
 use integers::total_within;
-use pricing::cents::cents;
 use refusals::Refusal;
 use sharing::SharingRule;
 use std::io;
@@ -37,21 +35,20 @@ pub impl From<io::Error> for Stop as StopFromOutput {
     }
 }
 
-// What a QSE is charged for a quantity over some hours at one price.
-pub fn charged(price: u32, tenths: u32, hours: u8) -> Result<i64, Stop>
-    ensures { λ r. ⌜ made r (λ amount. amount ≡ pos (cents-of price tenths) *ℤ pos hours) ⌝ }
+// What so many cents an hour come to over some hours.
+pub fn over_hours(cents: u64, hours: u8) -> Result<i64, Stop>
+    ensures { λ r. ⌜ made r (λ amount. amount ≡ pos cents *ℤ pos hours) ⌝ }
 {
-    let each = i64::try_from(cents(price, tenths))?;
-    each.checked_mul(i64::from(hours)).ok_or(Stop::TooLarge)
+    i64::try_from(cents)?
+        .checked_mul(i64::from(hours))
+        .ok_or(Stop::TooLarge)
 }
 
-// What a QSE is paid for a quantity over some hours at one price: the charge, turned.
-pub fn paid(price: u32, tenths: u32, hours: u8) -> Result<i64, Stop>
-    ensures { λ r. ⌜ made r (λ amount. amount ≡ negℤ (pos (cents-of price tenths) *ℤ pos hours)) ⌝ }
+// An amount that is charged, as one that is paid.
+pub fn turned(amount: i64) -> Result<i64, Stop>
+    ensures { λ r. ⌜ made r (λ other. other ≡ negℤ amount) ⌝ }
 {
-    charged(price, tenths, hours)?
-        .checked_neg()
-        .ok_or(Stop::TooLarge)
+    amount.checked_neg().ok_or(Stop::TooLarge)
 }
 
 // Three parts of a total by a sharing rule.

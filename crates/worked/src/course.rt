@@ -2,9 +2,8 @@
 use crate::amounts::Stop;
 use crate::amounts::StopFromOutput;
 use crate::amounts::StopFromRefusal;
-use crate::amounts::StopFromSize;
-use crate::amounts::charged;
-use crate::amounts::paid;
+use crate::amounts::over_hours;
+use crate::amounts::turned;
 use defaults::DayAhead;
 use defaults::DayAheadRule;
 use defaults::DefaultRule;
@@ -12,6 +11,7 @@ use defaults::Highest;
 use defaults::HighestRule;
 use pricing::board::Board;
 use pricing::board::interval::Interval;
+use pricing::cents::cents;
 use pricing::limits::INTERVALS;
 use refusals::Refusal;
 use std::io::Write;
@@ -20,73 +20,184 @@ use text::DollarsDisplay;
 use text::Megawatts;
 use text::MegawattsDisplay;
 
-pub fn procurement<W: Write>(out: &mut W) -> Result<(), Stop> {
-    let obligation = Megawatts { tenths: 80 };
-    let arranged = Megawatts { tenths: 15 };
-    write_heading(
-        out,
-        "Day-ahead procurement: regulation down, hour 17",
-        "DARDAMT = DARDPR * DARDQ, where DARDQ = DARDO - DASARDQ",
-    )?;
+#[derive(Clone, Copy)]
+struct Example {
+    title: &'static str,
+    equation: &'static str,
+    rows: &'static [Row],
+}
+
+// A quantity in tenths of a MW, settled in the same way for some hours.
+#[derive(Clone, Copy)]
+struct Row {
+    tenths: u32,
+    hours: u8,
+    settlement: Settlement,
+}
+
+#[derive(Clone, Copy)]
+enum Settlement {
+    Charged {
+        price: u32,
+    },
+    Paid {
+        price: u32,
+    },
+    // by the highest rule, on a board with these prices and this average
+    Failed {
+        prices: &'static [u32],
+        average: u32,
+    },
+    // by the day-ahead rule
+    Infeasible {
+        price: u32,
+    },
+}
+
+const EXAMPLES: [Example; 6] = [
+    Example {
+        title: "Day-ahead procurement: regulation down, hour 17, 8.0 MW less 1.5 MW self-arranged",
+        equation: "DARDAMT = DARDPR * DARDQ, where DARDQ = DARDO - DASARDQ",
+        rows: &[Row {
+            tenths: 80 - 15,
+            hours: 1,
+            settlement: Settlement::Charged { price: 3_800 },
+        }],
+    },
+    Example {
+        title: "Day-ahead award: responsive reserve, hour 16",
+        equation: "PCRRAMT = (-1) * MCPCRR * PCRR",
+        rows: &[Row {
+            tenths: 550,
+            hours: 1,
+            settlement: Settlement::Paid { price: 7_700 },
+        }],
+    },
+    Example {
+        title: "Supplemental award: regulation up, hours 13 to 24",
+        equation: "RTPCRUAMT = (-1) * MCPCRU * RTPCRU",
+        rows: &[
+            Row {
+                tenths: 90,
+                hours: 8,
+                settlement: Settlement::Paid { price: 11_100 },
+            },
+            Row {
+                tenths: 90,
+                hours: 4,
+                settlement: Settlement::Paid { price: 4_600 },
+            },
+        ],
+    },
+    Example {
+        title: "Failure: contingency reserve, hour 18",
+        equation: "ECRFQAMT = max(MCPCECR, AVGRTASIP) * (ECRFQ + TECRFQ)",
+        rows: &[Row {
+            tenths: 290,
+            hours: 1,
+            settlement: Settlement::Failed {
+                prices: &[4_500, 9_800],
+                average: 300,
+            },
+        }],
+    },
+    Example {
+        title: "Failure: non-spin reserve, one hour",
+        equation: "NSFQAMT = max(MCPCNS, AVGRTASIP) * (NSFQ + TNSFQ)",
+        rows: &[Row {
+            tenths: 250,
+            hours: 1,
+            settlement: Settlement::Failed {
+                prices: &[3_000, 30_000, 300_000],
+                average: 90_000,
+            },
+        }],
+    },
+    Example {
+        title: "Infeasible quantity: regulation down, hours 15 to 24",
+        equation: "RDINFQAMT = MCPCRD * RDINFQ",
+        rows: &[
+            Row {
+                tenths: 140,
+                hours: 5,
+                settlement: Settlement::Infeasible { price: 5_500 },
+            },
+            Row {
+                tenths: 140,
+                hours: 5,
+                settlement: Settlement::Infeasible { price: 2_300 },
+            },
+        ],
+    },
+];
+
+pub fn write_examples<W: Write>(out: &mut W) -> Result<(), Stop> {
+    for example in EXAMPLES {
+        write_example(out, example)?;
+    }
+    Ok(())
+}
+
+fn write_example<W: Write>(out: &mut W, example: Example) -> Result<(), Stop> {
+    let title = example.title;
+    let equation = example.equation;
+    writeln!(out, "\n{title}\n  {equation}")?;
+    let mut total: i64 = 0;
+    for row in example.rows {
+        let amount = write_row(out, row)?;
+        total = total.checked_add(amount).ok_or(Stop::TooLarge)?;
+    }
+    let amount = Dollars { cents: total };
+    writeln!(out, "  amount {amount}")?;
+    Ok(())
+}
+
+fn write_row<W: Write>(out: &mut W, row: &Row) -> Result<i64, Stop> {
+    if let Settlement::Failed { prices, average } = row.settlement {
+        write_board(out, &board_with(prices, average)?)?;
+    }
+    let (price, cents) = settle(row)?;
+    let quantity = Megawatts { tenths: row.tenths };
+    let price = Dollars {
+        cents: i64::from(price),
+    };
+    let amount = Dollars { cents };
+    let hours = row.hours;
+    let unit = if hours == 1 { "hour" } else { "hours" };
     writeln!(
         out,
-        "  obligation {obligation}, of which {arranged} is self-arranged"
+        "  {hours} {unit}, {quantity} at {price} per MW: {amount}"
     )?;
-    let tenths = obligation.tenths - arranged.tenths;
-    let amount = charged(3_800, tenths, 1)?;
-    write_priced(out, 3_800, tenths, 1, amount)?;
-    write_amount(out, amount)
+    Ok(cents)
 }
 
-pub fn day_ahead_award<W: Write>(out: &mut W) -> Result<(), Stop> {
-    write_heading(
-        out,
-        "Day-ahead award: responsive reserve, hour 16",
-        "PCRRAMT = (-1) * MCPCRR * PCRR",
-    )?;
-    let amount = paid(7_700, 550, 1)?;
-    write_priced(out, 7_700, 550, 1, amount)?;
-    write_amount(out, amount)
-}
-
-pub fn supplemental_award<W: Write>(out: &mut W) -> Result<(), Stop> {
-    write_heading(
-        out,
-        "Supplemental award: regulation up, hours 13 to 24",
-        "RTPCRUAMT = (-1) * MCPCRU * RTPCRU",
-    )?;
-    let early = paid(11_100, 90, 8)?;
-    write_priced(out, 11_100, 90, 8, early)?;
-    let late = paid(4_600, 90, 4)?;
-    write_priced(out, 4_600, 90, 4, late)?;
-    write_amount(out, early.checked_add(late).ok_or(Stop::TooLarge)?)
-}
-
-pub fn contingency_failure<W: Write>(out: &mut W) -> Result<(), Stop> {
-    write_heading(
-        out,
-        "Failure: contingency reserve, hour 18",
-        "ECRFQAMT = max(MCPCECR, AVGRTASIP) * (ECRFQ + TECRFQ)",
-    )?;
-    failure(out, &[4_500, 9_800], 300, 290)
-}
-
-pub fn non_spin_failure<W: Write>(out: &mut W) -> Result<(), Stop> {
-    write_heading(
-        out,
-        "Failure: non-spin reserve, one hour",
-        "NSFQAMT = max(MCPCNS, AVGRTASIP) * (NSFQ + TNSFQ)",
-    )?;
-    failure(out, &[3_000, 30_000, 300_000], 90_000, 250)
-}
-
-// A failed quantity by the highest rule, on a board with these prices and this average.
-fn failure<W: Write>(out: &mut W, prices: &[u32], average: u32, tenths: u32) -> Result<(), Stop> {
-    let board = board_with(prices, average)?;
-    write_board(out, &board)?;
-    let amount = i64::try_from(Highest::charged(&board, tenths)?)?;
-    write_priced(out, board.top_price(), tenths, 1, amount)?;
-    write_amount(out, amount)
+// The price that a row is settled at, and its amount.
+fn settle(row: &Row) -> Result<(u32, i64), Stop> {
+    match row.settlement {
+        Settlement::Charged { price } => Ok((
+            price,
+            over_hours(cents(price, row.tenths), row.hours)?,
+        )),
+        Settlement::Paid { price } => Ok((
+            price,
+            turned(over_hours(cents(price, row.tenths), row.hours)?)?,
+        )),
+        Settlement::Failed { prices, average } => {
+            let board = board_with(prices, average)?;
+            Ok((
+                board.top_price(),
+                over_hours(Highest::charged(&board, row.tenths)?, row.hours)?,
+            ))
+        }
+        Settlement::Infeasible { price } => {
+            let mut board = Board::new();
+            board.clear(price)?;
+            Ok((
+                board.day_ahead_price(),
+                over_hours(DayAhead::charged(&board, row.tenths)?, row.hours)?,
+            ))
+        }
+    }
 }
 
 // A board with these markets cleared, and an average that each interval shares.
@@ -107,32 +218,6 @@ fn board_with(prices: &[u32], average: u32) -> Result<Board, Refusal> {
     Ok(board)
 }
 
-pub fn infeasible<W: Write>(out: &mut W) -> Result<(), Stop> {
-    write_heading(
-        out,
-        "Infeasible quantity: regulation down, hours 15 to 24",
-        "RDINFQAMT = MCPCRD * RDINFQ",
-    )?;
-    let early = infeasible_hours(out, 5_500, 140, 5)?;
-    let late = infeasible_hours(out, 2_300, 140, 5)?;
-    write_amount(out, early.checked_add(late).ok_or(Stop::TooLarge)?)
-}
-
-// An infeasible quantity by the day-ahead rule, over some hours at one day-ahead price.
-fn infeasible_hours<W: Write>(
-    out: &mut W,
-    price: u32,
-    tenths: u32,
-    hours: u8,
-) -> Result<i64, Stop> {
-    let mut board = Board::new();
-    board.clear(price)?;
-    let each = i64::try_from(DayAhead::charged(&board, tenths)?)?;
-    let amount = each.checked_mul(i64::from(hours)).ok_or(Stop::TooLarge)?;
-    write_priced(out, board.day_ahead_price(), tenths, hours, amount)?;
-    Ok(amount)
-}
-
 // What a board's markets cleared at, and its average where there is one.
 pub fn write_board<W: Write>(out: &mut W, board: &Board) -> Result<(), Stop> {
     for market in 0..board.cleared() {
@@ -149,36 +234,5 @@ pub fn write_board<W: Write>(out: &mut W, board: &Board) -> Result<(), Stop> {
         };
         writeln!(out, "  average real-time price {average} per MW")?;
     }
-    Ok(())
-}
-
-pub fn write_heading<W: Write>(out: &mut W, title: &str, equation: &str) -> Result<(), Stop> {
-    writeln!(out, "\n{title}\n  {equation}")?;
-    Ok(())
-}
-
-fn write_priced<W: Write>(
-    out: &mut W,
-    price: u32,
-    tenths: u32,
-    hours: u8,
-    cents: i64,
-) -> Result<(), Stop> {
-    let quantity = Megawatts { tenths };
-    let price = Dollars {
-        cents: i64::from(price),
-    };
-    let amount = Dollars { cents };
-    let unit = if hours == 1 { "hour" } else { "hours" };
-    writeln!(
-        out,
-        "  {hours} {unit}, {quantity} at {price} per MW: {amount}"
-    )?;
-    Ok(())
-}
-
-fn write_amount<W: Write>(out: &mut W, cents: i64) -> Result<(), Stop> {
-    let amount = Dollars { cents };
-    writeln!(out, "  amount {amount}")?;
     Ok(())
 }

@@ -2,18 +2,18 @@
 use crate::amounts::Stop;
 use crate::amounts::StopFromOutput;
 use crate::amounts::StopFromRefusal;
-use crate::amounts::StopFromSize;
-use crate::amounts::charged;
+use crate::amounts::over_hours;
 use crate::amounts::sum;
 use crate::amounts::three_parts;
 use crate::course::write_board;
-use crate::course::write_heading;
 use defaults::DayAhead;
 use defaults::DayAheadRule;
 use defaults::DefaultRule;
 use largest_remainder::LargestRemainder;
 use largest_remainder::LargestRemainderRule;
 use pricing::board::Board;
+use pricing::cents::cents;
+use refusals::Refusal;
 use running::Running;
 use running::RunningRule;
 use std::io::Write;
@@ -22,34 +22,70 @@ use text::DollarsDisplay;
 use text::Megawatts;
 use text::MegawattsDisplay;
 
+// What the hour's quantities cost, in cents.
+#[derive(Clone, Copy)]
+struct Costs {
+    day_ahead: i64,
+    supplemental: i64,
+    infeasible: i64,
+}
+
+// The hour's quantities: bought day-ahead, bought in the supplemental market, and infeasible.
+const DAY_AHEAD: Megawatts = Megawatts { tenths: 9_900 };
+
+const SUPPLEMENTAL: Megawatts = Megawatts { tenths: 100 };
+
+const INFEASIBLE: Megawatts = Megawatts { tenths: 100 };
+
+const BOUGHT: Megawatts = Megawatts {
+    tenths: 9_900 + 100,
+};
+
+fn costs_on(board: &Board) -> Result<Costs, Stop> {
+    let supplemental_price = board.price(1).ok_or(Refusal::NoSuchPlace)?;
+    Ok(Costs {
+        day_ahead: over_hours(cents(board.day_ahead_price(), DAY_AHEAD.tenths), 1)?,
+        supplemental: over_hours(cents(supplemental_price, SUPPLEMENTAL.tenths), 1)?,
+        infeasible: over_hours(DayAhead::charged(board, INFEASIBLE.tenths)?, 1)?,
+    })
+}
+
+// What was bought costs, less what the infeasible quantity is charged.
+fn net_of(costs: Costs) -> Result<i64, Stop> {
+    let bought = costs
+        .day_ahead
+        .checked_add(costs.supplemental)
+        .ok_or(Stop::TooLarge)?;
+    bought.checked_sub(costs.infeasible).ok_or(Stop::TooLarge)
+}
+
 // The course's cost allocation: non-spin reserve bought day-ahead and in one supplemental market, less what an infeasible quantity is charged.
 pub fn settle<W: Write>(out: &mut W) -> Result<(), Stop> {
-    write_heading(
-        out,
-        "One hour from beginning to end: non-spin reserve, hour 7",
-        "NSCOST = NSPR * NSQ, where NSPR = NSCOSTTOT / NSQTOT",
-    )?;
-    let board = corrected_board(out)?;
-    let day_ahead = charged(board.day_ahead_price(), 9_900, 1)?;
-    write_cost(out, "bought day-ahead", 9_900, day_ahead)?;
-    let supplemental = charged(board.top_price(), 100, 1)?;
-    write_cost(out, "bought in the supplemental market", 100, supplemental)?;
-    let infeasible = i64::try_from(DayAhead::charged(&board, 100)?)?;
-    write_cost(
-        out,
-        "infeasible, charged at the day-ahead price",
-        100,
-        infeasible,
-    )?;
-    let bought = day_ahead.checked_add(supplemental).ok_or(Stop::TooLarge)?;
-    let net = bought.checked_sub(infeasible).ok_or(Stop::TooLarge)?;
-    let bought_quantity = Megawatts {
-        tenths: 9_900 + 100,
-    };
-    let net_cost = Dollars { cents: net };
     writeln!(
         out,
-        "  net cost {net_cost} for {bought_quantity} bought, shared by open quantity"
+        "\nOne hour from beginning to end: non-spin reserve, hour 7\n  NSCOST = NSPR * NSQ, where NSPR = NSCOSTTOT / NSQTOT"
+    )?;
+    let board = corrected_board(out)?;
+    let costs = costs_on(&board)?;
+    write_cost(out, DAY_AHEAD, "bought day-ahead", costs.day_ahead)?;
+    write_cost(
+        out,
+        SUPPLEMENTAL,
+        "bought in the supplemental market",
+        costs.supplemental,
+    )?;
+    write_cost(
+        out,
+        INFEASIBLE,
+        "infeasible, charged at the day-ahead price",
+        costs.infeasible,
+    )?;
+    let net = net_of(costs)?;
+    write_cost(
+        out,
+        BOUGHT,
+        "bought, net cost to share by open quantity",
+        net,
     )?;
     write_shares(out, net, [1_010, 3_333, 5_657])
 }
@@ -68,8 +104,12 @@ fn corrected_board<W: Write>(out: &mut W) -> Result<Board, Stop> {
     Ok(board)
 }
 
-fn write_cost<W: Write>(out: &mut W, what: &str, tenths: u32, cents: i64) -> Result<(), Stop> {
-    let quantity = Megawatts { tenths };
+fn write_cost<W: Write>(
+    out: &mut W,
+    quantity: Megawatts,
+    what: &str,
+    cents: i64,
+) -> Result<(), Stop> {
     let cost = Dollars { cents };
     writeln!(out, "  {quantity} {what}: {cost}")?;
     Ok(())

@@ -11,12 +11,7 @@ use std::io::Write;
 
 fn print_all<W: Write>(out: &mut W) -> Result<(), Stop> {
     writeln!(out, "Examples of the settlement course")?;
-    course::procurement(out)?;
-    course::day_ahead_award(out)?;
-    course::supplemental_award(out)?;
-    course::contingency_failure(out)?;
-    course::non_spin_failure(out)?;
-    course::infeasible(out)?;
+    course::write_examples(out)?;
     hour::settle(out)?;
     hour::leave_no_cent(out)
 }

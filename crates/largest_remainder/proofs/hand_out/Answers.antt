@@ -11,13 +11,12 @@ use Rattle.std.proofs.shelf.Signed.{toZ-ofZ}
 use Rattle.sharing.specs.Shares.{nth}
 use Rattle.largest_remainder.specs.Largest.{unit-for}
 use Rattle.largest_remainder.proofs.Fills.{handed-more}
-use Rattle.largest_remainder.proofs.Ranks.{unit-at-most-one}
 use Rattle.largest_remainder.proofs.hand_out.Needs as need
 
 pub add-parts : need.add-parts
 add-parts c =
     let k = c .loop-k .k in
-    let one = unit-at-most-one (c .args .missing) (c .args .rests .now) k in
+    let one = c .unit .ensures .bound in
     let fits-part : SFits w64 (nth (c .loop-k .parts) k) = search needs in
     let fits-unit : SFits w64 (c .unit .result) = search needs in
     simp toZ-ofZ (omega (arith, ints, c .loop-k .inv .1 k (omega arith), c .pre .small k))
@@ -26,12 +25,12 @@ pub loop-k-again : need.loop-k-again
 loop-k-again c =
     let k = c .loop-k .k in
     let parts = c .loop-k .parts in
-    let one = unit-at-most-one (c .args .missing) (c .args .rests .now) k in
+    let one = c .unit .ensures .bound in
     let fits-part : SFits w64 (nth parts k) = search needs in
     let fits-unit : SFits w64 (c .unit .result) = search needs in
     let fits-sum : SFits w64 (nth parts k +ℤ c .unit .result) = omega (arith, ints, c .loop-k .inv .1 k (omega arith), c .pre .small k) in
     let inside : k < length parts = omega arith in
-    simp toZ-ofZ (handed-more (c .args .parts .now) (unit-for (c .args .missing) (c .args .rests .now)) parts k (c .unit .result) inside (c .unit .ensures) (c .loop-k .inv))
+    simp toZ-ofZ (handed-more (c .args .parts .now) (unit-for (c .args .missing) (c .args .rests .now)) parts k (c .unit .result) inside (c .unit .ensures .value) (c .loop-k .inv))
 
 pub returns : need.returns
 returns c =

@@ -1,5 +1,5 @@
 // A filed interval's two prices, in cents per MW.
-#[derive(Clone, Copy, PartialEq, Eq, Debug)]
+#[derive(Clone, Copy)]
 pub struct Interval {
     pub online: u32,
     pub reliability: u32,
