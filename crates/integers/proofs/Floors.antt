@@ -1,5 +1,5 @@
 -- Quotients rounded toward minus infinity, and their remainders, by a divisor of at least 1.
-use mathlib.Core.Path.{_≡_, refl, ap, _∙_}
+use mathlib.Core.Path.{_≡_, refl, ap}
 use Prim.Native.Nat.{ℕ, _*_, _≤_, _<_}
 use native.Mathlib.Nat.{zero-div, zero-mod, mul-le-mul-left}
 use native.Mathlib.Omega.{arith}

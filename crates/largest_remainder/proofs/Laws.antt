@@ -19,7 +19,6 @@ use Rattle.std.proofs.shelf.Counted.{getD-map-counting, length-map-counting}
 use Rattle.std.proofs.shelf.Lists.{getD-map}
 use Rattle.std.proofs.shelf.Sums.{sumBy-cons, countBy-le-length}
 use Rattle.std.proofs.shelf.Tests.{cases-lt, cond-true, cond-false, lt-ltb, le-ltb}
-use Rattle.std.proofs.shelf.Ways.{tells}
 use Rattle.integers.specs.Totals.{total-of, size-of}
 use Rattle.integers.proofs.Products.{mul-add, mul-sub}
 use Rattle.integers.proofs.Floors.{euclid, euclid-under, euclid-none, floor-size, other-factor}

@@ -1,11 +1,10 @@
 -- The highest of some prices: no less than the first, and within whatever bounds them all.
 use mathlib.Core.List.{List, [], _∷_}
-use Prim.Native.Nat.{ℕ, zero, suc, _+_, _≤_, _<_, max}
+use Prim.Native.Nat.{ℕ, suc, _≤_, _<_, max}
 use native.Mathlib.Nat.{le-max-left, le-max-right, le-trans}
 use native.Mathlib.Omega.{arith}
 use lib.ListN.{length, getD, take}
 use Rattle.std.specs.Iters.{folded}
-use Rattle.std.specs.shelf.Lists.{Every}
 use Rattle.std.proofs.shelf.Lists.{getD-take, length-take}
 use Rattle.std.specs.Options.{valueOr}
 use Rattle.pricing.specs.Boards.{PlainBoard, PricesKept, highest, average-of, day-ahead-price, top-price}

@@ -1,5 +1,4 @@
 -- The cents keep their laws.
-use Prim.Native.Nat.{ℕ, _+_, _*_, _/_, _≤_}
 use native.Mathlib.Nat.{mul-le-mul-right, mul-le-mul-left}
 use native.Mathlib.Omega.{arith}
 use Rattle.pricing.specs.Cents.{cents-of, CentsLaws}

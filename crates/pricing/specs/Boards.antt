@@ -1,5 +1,4 @@
 -- The price board as plain data: what may stand on it, how filing changes it, and what is read off it.
-use mathlib.Core.Path.{_≡_}
 use mathlib.Core.Bool.{Bool, cond, _&&_}
 use mathlib.Core.List.{List, [], _∷_, _++_}
 use Prim.Native.Nat.{ℕ, _+_, _/_, max, _≤_}

@@ -1,9 +1,9 @@
 -- The running rule keeps the laws of a sharing rule.
-use mathlib.Core.Path.{_≡_, refl, sym, ap, subst, _∙_}
-use mathlib.Core.List.{List, [], _∷_, map}
+use mathlib.Core.Path.{_≡_, sym, ap, subst, _∙_}
+use mathlib.Core.List.{List, map}
 use Prim.Native.Nat.{ℕ, zero, suc, _+_, _<_}
 use native.Mathlib.Omega.{arith}
-use lib.ListN.{length, getD, take}
+use lib.ListN.{length, take}
 use lib.IntN.{ℤ, pos, _+ℤ_, _-ℤ_, _*ℤ_, *ℤ-comm, *ℤ-zero, zero-*ℤ}
 use lib.Signed.{_≤ℤ_, _<ℤ_}
 use borrow.Author.Differences.{ints}
@@ -37,24 +37,15 @@ module _ (W : ℤ) (positive : pos 1 ≤ℤ W) where
       (rw mul-assoc (omega (arith, ints, *ℤ-comm t W)))
       (rw mul-assoc (omega (arith, ints, *ℤ-comm t W)))
 
-  -- The rounded running totals before and after a weight, on both sides of the exact share.
-  step-not-above : (t before weight after : ℤ) → after ≡ before +ℤ weight → ((rounded W (t *ℤ after) -ℤ rounded W (t *ℤ before)) *ℤ W) <ℤ (t *ℤ weight +ℤ W)
-  step-not-above t before weight after e =
+  -- The step from one rounded running total to the next, on both sides of the exact share.
+  step-close : (t before weight after : ℤ) → after ≡ before +ℤ weight → (((rounded W (t *ℤ after) -ℤ rounded W (t *ℤ before)) *ℤ W) <ℤ (t *ℤ weight +ℤ W)) × ((t *ℤ weight) <ℤ ((rounded W (t *ℤ after) -ℤ rounded W (t *ℤ before)) *ℤ W +ℤ W))
+  step-close t before weight after e =
       let x = rounded W (t *ℤ after) in
       let y = rounded W (t *ℤ before) in
-      linear (t *ℤ after) (t *ℤ before) (t *ℤ weight) (W *ℤ x) (W *ℤ y) ((x -ℤ y) *ℤ W) (rounded-low (t *ℤ after)) (rounded-high (t *ℤ before)) (ap (λ z. t *ℤ z) e ∙ mul-add t before weight) (*ℤ-comm (x -ℤ y) W ∙ mul-sub W x y)
+      linear (t *ℤ after) (t *ℤ before) (t *ℤ weight) (W *ℤ x) (W *ℤ y) ((x -ℤ y) *ℤ W) (rounded-low (t *ℤ after)) (rounded-high (t *ℤ after)) (rounded-low (t *ℤ before)) (rounded-high (t *ℤ before)) (ap (λ z. t *ℤ z) e ∙ mul-add t before weight) (*ℤ-comm (x -ℤ y) W ∙ mul-sub W x y)
     where
-      linear : (m n d x y p : ℤ) → (pos 2 *ℤ x) ≤ℤ (pos 2 *ℤ m +ℤ W) → (pos 2 *ℤ n +ℤ W) <ℤ (pos 2 *ℤ y +ℤ pos 2 *ℤ W) → m ≡ n +ℤ d → p ≡ x -ℤ y → p <ℤ (d +ℤ W)
-      linear m n d x y p low high e f = omega (arith, ints)
-
-  step-not-below : (t before weight after : ℤ) → after ≡ before +ℤ weight → (t *ℤ weight) <ℤ ((rounded W (t *ℤ after) -ℤ rounded W (t *ℤ before)) *ℤ W +ℤ W)
-  step-not-below t before weight after e =
-      let x = rounded W (t *ℤ after) in
-      let y = rounded W (t *ℤ before) in
-      linear (t *ℤ after) (t *ℤ before) (t *ℤ weight) (W *ℤ x) (W *ℤ y) ((x -ℤ y) *ℤ W) (rounded-high (t *ℤ after)) (rounded-low (t *ℤ before)) (ap (λ z. t *ℤ z) e ∙ mul-add t before weight) (*ℤ-comm (x -ℤ y) W ∙ mul-sub W x y)
-    where
-      linear : (m n d x y p : ℤ) → (pos 2 *ℤ m +ℤ W) <ℤ (pos 2 *ℤ x +ℤ pos 2 *ℤ W) → (pos 2 *ℤ y) ≤ℤ (pos 2 *ℤ n +ℤ W) → m ≡ n +ℤ d → p ≡ x -ℤ y → d <ℤ (p +ℤ W)
-      linear m n d x y p high low e f = omega (arith, ints)
+      linear : (m n d x y p : ℤ) → (pos 2 *ℤ x) ≤ℤ (pos 2 *ℤ m +ℤ W) → (pos 2 *ℤ m +ℤ W) <ℤ (pos 2 *ℤ x +ℤ pos 2 *ℤ W) → (pos 2 *ℤ y) ≤ℤ (pos 2 *ℤ n +ℤ W) → (pos 2 *ℤ n +ℤ W) <ℤ (pos 2 *ℤ y +ℤ pos 2 *ℤ W) → m ≡ n +ℤ d → p ≡ x -ℤ y → (p <ℤ (d +ℤ W)) × (d <ℤ (p +ℤ W))
+      linear m n d x y p low high low′ high′ e f = (omega (arith, ints), omega (arith, ints))
 
 -- Steps add up to the way from the first to the last.
 steps-add-up : (reached : ℕ → ℤ) (a n : ℕ) → total-of (map (λ k. reached (k + 1) -ℤ reached k) (counting a n)) ≡ reached (a + n) -ℤ reached a
@@ -85,11 +76,15 @@ running-fair total weights range =
     let part-is : (k : ℕ) → k < length weights → nth (running total weights) k ≡ part k = λ k h. getD-map-counting part 0 (length weights) k k (pos 0) h (omega arith) in
     let front : ℕ → ℤ = λ k. total-of (take k weights) in
     let more : (k : ℕ) → k < length weights → front (k + 1) ≡ front k +ℤ nth weights k = λ k h. total-more weights k (pos 0) h in
+    let near : (k : ℕ) → k < length weights → ((nth (running total weights) k *ℤ W) <ℤ (total *ℤ nth weights k +ℤ W)) × ((total *ℤ nth weights k) <ℤ (nth (running total weights) k *ℤ W +ℤ W)) = λ k h.
+    subst (λ p. ((p *ℤ W) <ℤ (total *ℤ nth weights k +ℤ W)) × ((total *ℤ nth weights k) <ℤ (p *ℤ W +ℤ W))) (sym (part-is k h))
+    (step-close W (range .whole) total (front k) (nth weights k) (front (k + 1)) (more k h))
+    in
     record {
       one-each = length-map-counting part 0 (length weights);
       add-up = ends _ (reached (0 + length weights)) (reached 0) total (steps-add-up reached 0 (length weights)) (ap reached (from-none (length weights)) ∙ everybody total weights (range .whole)) (nobody total weights (range .whole));
-      not-above = λ k h. subst (λ p. (p *ℤ W) <ℤ (total *ℤ nth weights k +ℤ W)) (sym (part-is k h)) (step-not-above W (range .whole) total (front k) (nth weights k) (front (k + 1)) (more k h));
-      not-below = λ k h. subst (λ p. (total *ℤ nth weights k) <ℤ (p *ℤ W +ℤ W)) (sym (part-is k h)) (step-not-below W (range .whole) total (front k) (nth weights k) (front (k + 1)) (more k h));
+      not-above = λ k h. near k h .0;
+      not-below = λ k h. near k h .1;
       none-for-none = λ k h none.
           part-is k h ∙ same (reached (k + 1)) (reached k) (ap (λ z. rounded W (total *ℤ z)) (stays (front (k + 1)) (front k) (nth weights k) (more k h) none));
     }

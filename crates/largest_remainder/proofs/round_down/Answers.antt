@@ -1,8 +1,8 @@
 use mathlib.Core.Path.{_≡_, sym, ap, _∙_}
 use mathlib.Core.List.{map}
-use Prim.Native.Nat.{ℕ, _+_, _*_, _≤_, _<_}
+use Prim.Native.Nat.{_<_}
 use native.Mathlib.Omega.{arith}
-use lib.ListN.{length, take, set}
+use lib.ListN.{length, take}
 use lib.IntN.{pos, _-ℤ_, natAbs}
 use mir.Syntax.{w64}
 use mir.Val.{SFits}
@@ -14,7 +14,7 @@ use Rattle.integers.specs.Totals.{total-of}
 use Rattle.integers.proofs.Totals.{total-push}
 use Rattle.sharing.specs.Shares.{nth}
 use Rattle.sharing.proofs.Sizes.{one-small, whole-small}
-use Rattle.largest_remainder.specs.Largest.{floor-of, remainder-of, floors, remainders}
+use Rattle.largest_remainder.specs.Largest.{floor-of, remainder-of, floors}
 use Rattle.largest_remainder.proofs.Fills.{mapped-more}
 use Rattle.largest_remainder.proofs.round_down.Needs as need
 

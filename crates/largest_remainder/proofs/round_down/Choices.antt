@@ -1,10 +1,10 @@
 use mathlib.Core.Path.{_≡_}
 use mathlib.Core.List.{map}
-use Prim.Native.Nat.{ℕ, _+_, _*_, _≤_, _<_}
-use lib.ListN.{getD, take}
+use Prim.Native.Nat.{_+_, _*_, _≤_}
+use lib.ListN.{take}
 use lib.IntN.{_-ℤ_, natAbs}
 use Rattle.integers.specs.Totals.{total-of}
-use Rattle.sharing.specs.Shares.{nth, most-total, most-sizes}
+use Rattle.sharing.specs.Shares.{most-total, most-sizes}
 use Rattle.largest_remainder.specs.Largest.{floor-of, remainder-of}
 use Rattle.largest_remainder.proofs.round_down.Given as given
 

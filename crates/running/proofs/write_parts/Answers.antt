@@ -1,8 +1,8 @@
 use mathlib.Core.Path.{_≡_, refl, ap, sym, _∙_}
-use Prim.Native.Nat.{ℕ, _<_, _≤_, _+_, _*_}
+use Prim.Native.Nat.{ℕ, _<_, _+_}
 use native.Mathlib.Omega.{arith}
-use lib.ListN.{length, getD, take}
-use lib.IntN.{ℤ, pos, natAbs, _+ℤ_, _-ℤ_, _*ℤ_}
+use lib.ListN.{length, take}
+use lib.IntN.{ℤ, pos, _+ℤ_, _-ℤ_, _*ℤ_}
 use mir.Syntax.{w64}
 use mir.Val.{SFits}
 use borrow.Author.Count.{below-none}
@@ -13,10 +13,10 @@ use Rattle.std.proofs.shelf.Counted.{fill-by-all}
 use Rattle.std.proofs.shelf.Edits.{fill-by-more}
 use Rattle.integers.specs.Totals.{total-of}
 use Rattle.integers.proofs.Totals.{total-more}
-use Rattle.sharing.specs.Shares.{nth, most-total, most-sizes}
-use Rattle.running.specs.Running.{rounded, first-parts, running}
+use Rattle.sharing.specs.Shares.{nth}
+use Rattle.running.specs.Running.{rounded, first-parts}
 use Rattle.running.proofs.Laws.{nobody}
-use Rattle.sharing.proofs.Sizes.{front-small, one-small, whole-small, next-small, product-small}
+use Rattle.sharing.proofs.Sizes.{front-small, one-small, whole-small, next-small}
 use Rattle.running.proofs.write_parts.Needs as need
 
 pub loop-k-holds : need.loop-k-holds
