@@ -25,10 +25,14 @@ most-sizes = 1000000
 
 -- The range of every rule.
 pub record InRange (total : ℤ) (weights : List ℤ) : Type 0 where
+  -- there are weights, and not too many
   pub some-members : 1 ≤ length weights
   pub few-members : length weights ≤ most-members
+  -- the total is not too large, either way
   pub small-total : natAbs total ≤ most-total
+  -- nor are the weights
   pub small-sizes : size-of weights ≤ most-sizes
+  -- the weight sum is at least 1
   pub whole : pos 1 ≤ℤ total-of weights
 
 -- What stands at place k of the parts or of the weights.

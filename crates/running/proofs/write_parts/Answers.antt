@@ -1,8 +1,8 @@
 use mathlib.Core.Path.{_≡_, refl, ap, sym, _∙_}
-use Prim.Native.Nat.{ℕ, _<_, _+_}
+use Prim.Native.Nat.{ℕ, _≤_, _<_, _+_}
 use native.Mathlib.Omega.{arith}
 use lib.ListN.{length, take}
-use lib.IntN.{ℤ, pos, _+ℤ_, _-ℤ_, _*ℤ_}
+use lib.IntN.{ℤ, pos, natAbs, _+ℤ_, _-ℤ_, _*ℤ_}
 use mir.Syntax.{w64}
 use mir.Val.{SFits}
 use borrow.Author.Count.{below-none}
@@ -13,7 +13,7 @@ use Rattle.std.proofs.shelf.Counted.{fill-by-all}
 use Rattle.std.proofs.shelf.Edits.{fill-by-more}
 use Rattle.integers.specs.Totals.{total-of}
 use Rattle.integers.proofs.Totals.{total-more}
-use Rattle.sharing.specs.Shares.{nth}
+use Rattle.sharing.specs.Shares.{nth, most-sizes}
 use Rattle.running.specs.Running.{rounded, first-parts}
 use Rattle.running.proofs.Laws.{nobody}
 use Rattle.sharing.proofs.Sizes.{front-small, one-small, whole-small, next-small}
@@ -39,8 +39,8 @@ first-parts-next-requires c κs =
     let fits-weight : SFits w64 (nth weights k) = search needs in
     let small = next-small (c .args .total) weights (c .pre .range) k (c .loop-k .front) (c .loop-k-test .taken) (sym (c .loop-k .front-is) ∙ c .loop-k .inv .0) in
     let fits-next : SFits w64 (c .loop-k .front +ℤ nth weights k) = omega (arith, ints) in
-    let whole = whole-small (c .args .total) weights (c .pre .range) in
-    simp (toZ-ofZ, c .loop-k .front-is) (record { total = c .pre .range .small-total; whole = (rw (c .pre .sum) (c .pre .range .whole), rw (c .pre .sum) whole); front = small })
+    let whole : natAbs (c .args .whole) ≤ most-sizes = rw (c .pre .sum) (whole-small (c .args .total) weights (c .pre .range)) in
+    simp (toZ-ofZ, c .loop-k .front-is) (record { total = c .pre .range .small-total; whole = (rw (c .pre .sum) (c .pre .range .whole), whole); front = omega arith })
 
 pub loop-k-again : need.loop-k-again
 loop-k-again c =
