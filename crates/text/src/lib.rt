@@ -1,9 +1,9 @@
 // Money and quantities as an analyst reads them, from whole cents and whole tenths of a MW.
 //
-// `Dollars` and `Megawatts` promise the bytes that they write, for every number.
+// `Dollars` and `Megawatts` promise the bytes that they write, for every number, and `groups_lose_nothing` that the commas leave every digit in its place.
 ghost use Rattle.std.specs.Written.{Prints};
 ghost use Rattle.std.specs.declared.option.Option.the-variants.{Some};
-ghost use Rattle.text.specs.Texts.{three-digits, grouped-by, most-groups, size-text, dollars-text, megawatts-text};
+ghost use Rattle.text.specs.Texts.{GroupsLoseNothing, three-digits, grouped-by, most-groups, size-text, dollars-text, megawatts-text};
 use std::fmt;
 
 // An amount in cents, as dollars: -$4,235.00.
@@ -112,3 +112,8 @@ pub impl fmt::Display for Megawatts as MegawattsDisplay {
         write!(f, "{whole}.{tenths} MW")
     }
 }
+
+// A number in groups is the number as it is written, with commas put in.
+pub fn groups_lose_nothing()
+    ensures { λ _. ⌜ GroupsLoseNothing ⌝ }
+{}
