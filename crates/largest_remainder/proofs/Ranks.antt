@@ -79,7 +79,7 @@ sum-same f g a (suc n) same =
     omega (arith, sumBy-cons f a (counting (a + 1) n), sumBy-cons g a (counting (a + 1) n), same a (omega arith), sum-same f g (a + 1) n (λ k h. same k (omega arith)))
 
 -- The units handed out are just the units that are missing.
-pub units-add-up : (units : ℕ) (rests : List ℕ) → units ≤ length rests → sumBy (unit-for units rests) (counting 0 (length rests)) ≡ units
+pub units-add-up : (units : ℕ) (remainders : List ℕ) → units ≤ length remainders → sumBy (unit-for units remainders) (counting 0 (length remainders)) ≡ units
 units-add-up units [] few = omega arith
 units-add-up units (x ∷ xs) few =
     let all = countBy (ltb x) xs in
@@ -89,11 +89,11 @@ units-add-up units (x ∷ xs) few =
     let here = ap (λ a. one-if (ltb a units)) (ahead-first x xs) in
     ⊎-elim
     (λ less.
-    let rest = sum-same (λ k. unit-for units (x ∷ xs) (suc k)) (unit-for (units - 1) xs) 0 n (λ k h. next-less k (omega arith) less) in
+    let remainder = sum-same (λ k. unit-for units (x ∷ xs) (suc k)) (unit-for (units - 1) xs) 0 n (λ k h. next-less k (omega arith) less) in
     let one : one-if (ltb all units) ≡ 1 = cond-true _ 1 0 (lt-ltb all units less) in
     omega (arith, units-add-up (units - 1) xs (omega arith)))
     (λ more.
-    let rest = sum-same (λ k. unit-for units (x ∷ xs) (suc k)) (unit-for units xs) 0 n (λ k h. next-more k (omega arith) more) in
+    let remainder = sum-same (λ k. unit-for units (x ∷ xs) (suc k)) (unit-for units xs) 0 n (λ k h. next-more k (omega arith) more) in
     let none : one-if (ltb all units) ≡ 0 = cond-false _ 1 0 (le-ltb all units more) in
     omega (arith, units-add-up units xs (omega (arith, countBy-le-length (ltb x) xs))))
     (cases-lt all units)

@@ -25,8 +25,8 @@ abbrev pub floors : ℤ → List ℤ → List ℤ
 floors total weights = map (floor-of total (total-of weights)) weights
 
 -- Each member's remainder.
-abbrev pub remainders : ℤ → List ℤ → List ℕ
-remainders total weights = map (remainder-of total (total-of weights)) weights
+abbrev pub all-remainders : ℤ → List ℤ → List ℕ
+all-remainders total weights = map (remainder-of total (total-of weights)) weights
 
 -- The units that rounding down leaves missing of the total, which it never passes.
 abbrev pub missing-units : ℤ → List ℤ → ℕ
@@ -34,13 +34,13 @@ missing-units total weights = natAbs (total -ℤ total-of (floors total weights)
 
 -- How many members come before the member at k: the earlier ones with a remainder at least as large, and the later ones with a larger one.
 abbrev pub ahead-of : List ℕ → ℕ → ℕ
-ahead-of rests k = countBy (leb (getD rests k 0)) (take k rests) + countBy (ltb (getD rests k 0)) (drop (k + 1) rests)
+ahead-of remainders k = countBy (leb (getD remainders k 0)) (take k remainders) + countBy (ltb (getD remainders k 0)) (drop (k + 1) remainders)
 
 -- A member gets a unit where fewer come before it than units are missing.
 abbrev pub unit-for : ℕ → List ℕ → ℕ → ℕ
-unit-for units rests k = cond (ltb (ahead-of rests k) units) 1 0
+unit-for units remainders k = cond (ltb (ahead-of remainders k) units) 1 0
 
 -- Each member's part rounded down, and its unit where it gets one.
 abbrev pub largest-remainder : ℤ → List ℤ → List ℤ
 largest-remainder total weights =
-    map (λ k. nth (floors total weights) k +ℤ pos (unit-for (missing-units total weights) (remainders total weights) k)) (counting 0 (length weights))
+    map (λ k. nth (floors total weights) k +ℤ pos (unit-for (missing-units total weights) (all-remainders total weights) k)) (counting 0 (length weights))

@@ -26,12 +26,12 @@ returns c =
     let fits-whole : SFits w64 whole = c .fits .whole in
     let fits-product = product-fits (c .args .total) (c .args .weight) (c .pre .total) (c .pre .weight) in
     let fits-floor : SFits w64 (c .div-euclid .result) = search needs in
-    let fits-rest : SFits w64 (c .rem-euclid .result) = search needs in
+    let fits-remainder : SFits w64 (c .rem-euclid .result) = search needs in
     let floor-is : c .div-euclid .result ≡ floor-of (c .args .total) whole (c .args .weight) = simp toZ-ofZ at (c .div-euclid .ensures) in
-    let rest-is = simp toZ-ofZ at (c .rem-euclid .ensures .value) in
+    let remainder-is = simp toZ-ofZ at (c .rem-euclid .ensures .value) in
     let small = product-small (c .args .total) (c .args .weight) (c .pre .total) (c .pre .weight) in
     record {
       floor = toZ-ofZ w64 _ fits-floor ∙ floor-is;
-      rest = ap natAbs (toZ-ofZ w64 _ fits-rest ∙ rest-is);
+      remainder = ap natAbs (toZ-ofZ w64 _ fits-remainder ∙ remainder-is);
       bound = rw (toZ-ofZ w64 _ fits-floor, floor-is) (omega (arith, floor-size product whole (c .pre .whole .0)));
     }

@@ -30,9 +30,9 @@ loop-k-again c =
     let fits-unit : SFits w64 (c .unit .result) = search needs in
     let fits-sum : SFits w64 (nth parts k +ℤ c .unit .result) = omega (arith, ints, c .loop-k .inv .1 k (omega arith), c .pre .small k) in
     let inside : k < length parts = omega arith in
-    simp toZ-ofZ (handed-more (c .args .parts .now) (unit-for (c .args .missing) (c .args .rests .now)) parts k (c .unit .result) inside (c .unit .ensures .value) (c .loop-k .inv))
+    simp toZ-ofZ (handed-more (c .args .parts .now) (unit-for (c .args .missing) (c .args .remainders .now)) parts k (c .unit .result) inside (c .unit .ensures .value) (c .loop-k .inv))
 
 pub returns : need.returns
 returns c =
-    fill-by-all (λ j. nth (c .args .parts .now) j +ℤ pos (unit-for (c .args .missing) (c .args .rests .now) j)) (c .loop-k .parts) (length (c .args .rests .now)) (pos 0) (omega arith)
+    fill-by-all (λ j. nth (c .args .parts .now) j +ℤ pos (unit-for (c .args .missing) (c .args .remainders .now) j)) (c .loop-k .parts) (length (c .args .remainders .now)) (pos 0) (omega arith)
     (λ j h. c .loop-k .inv .0 j (omega arith))

@@ -46,11 +46,11 @@ loop-k-again c =
     let size = answer .bound in
     let fits-missing : SFits w64 (c .loop-k .missing -ℤ c .divide-floor .result .0) = omega (arith, ints, inv .3) in
     let inside-parts : k < length parts = omega arith in
-    let inside-rests : k < length (c .loop-k .rests) = omega arith in
+    let inside-remainders : k < length (c .loop-k .remainders) = omega arith in
     let more = ap total-of (take-more-set parts k (c .divide-floor .result .0) inside-parts) ∙ total-push (take k parts) (c .divide-floor .result .0) in
     simp (toZ-ofZ, c .loop-k .missing-is) (
       mapped-more (floor-of (c .args .total) (c .args .whole)) weights parts k (pos 0) (c .divide-floor .result .0) (c .loop-k-test .taken) inside-parts (answer .floor) (inv .0),
-      mapped-more (remainder-of (c .args .total) (c .args .whole)) weights (c .loop-k .rests) k (pos 0) (c .divide-floor .result .1) (c .loop-k-test .taken) inside-rests (answer .rest) (inv .1),
+      mapped-more (remainder-of (c .args .total) (c .args .whole)) weights (c .loop-k .remainders) k (pos 0) (c .divide-floor .result .1) (c .loop-k-test .taken) inside-remainders (answer .remainder) (inv .1),
       omega (arith, ints, inv .2),
       omega (arith, ints, inv .3),
     )
@@ -64,10 +64,10 @@ returns c =
     let inv = simp toZ-ofZ at (c .loop-k .inv) in
     let all-weights : take k weights ≡ weights = take-all k weights (c .loop-k-test .left) in
     let all-parts : take k (c .loop-k .parts) ≡ c .loop-k .parts = take-all k (c .loop-k .parts) (omega arith) in
-    let all-rests : take k (c .loop-k .rests) ≡ c .loop-k .rests = take-all k (c .loop-k .rests) (omega arith) in
+    let all-remainders : take k (c .loop-k .remainders) ≡ c .loop-k .remainders = take-all k (c .loop-k .remainders) (omega arith) in
     let written : c .loop-k .parts ≡ floors (c .args .total) weights = sym all-parts ∙ inv .0 ∙ (λ j. map (floor-of (c .args .total) (c .pre .sum j)) (all-weights j)) in
     record {
       floors = written;
-      rests = sym all-rests ∙ inv .1 ∙ (λ j. map (remainder-of (c .args .total) (c .pre .sum j)) (all-weights j));
+      remainders = sym all-remainders ∙ inv .1 ∙ (λ j. map (remainder-of (c .args .total) (c .pre .sum j)) (all-weights j));
       missing = c .unsigned-abs .ensures .value ∙ ap natAbs (inv .2 ∙ ap (λ ps. c .args .total -ℤ total-of ps) (all-parts ∙ written));
     }
