@@ -3,13 +3,14 @@
 // A default rule promises one amount for each board and quantity that it takes, never below the cents of the day-ahead price and never above the
 // cents of the top price, and refuses nothing else than its contract names. The highest rule charges the top price, the day-ahead rule the day-ahead
 // price.
+#![tactic(auto)]
+
 ghost use Rattle.defaults.specs.Charges.{Takes, Within, charge_refused, at_top_price, at_day_ahead_price};
 ghost use Rattle.pricing.specs.Boards.{PlainBoard};
 ghost use Rattle.pricing.specs.Views.{plain};
 ghost use Rattle.refusals.specs.Refused.{Gives};
 ghost use Rattle.std.specs.Prelude.{ℕ};
-ghost use Rattle.std.proofs.Common.{arith};
-ghost use Rattle.defaults.specs.Limits.{day_ahead_charge_at_most_top};
+ghost use Rattle.defaults.specs.Limits.{day_ahead_price_within, top_price_within};
 
 use pricing::board::Board;
 use pricing::cents::cents;
@@ -46,7 +47,7 @@ pub struct Highest;
 impl DefaultRule for Highest {
     ghost charge = { at_top_price };
 
-    ghost within = { λ board tenths takes. record { at_least_day_ahead = day_ahead_charge_at_most_top board tenths; at_most_top = omega arith } };
+    ghost within = { top_price_within };
 
     fn charged(board: &Board, tenths: u32) -> Result<u64, Refusal> {
         check(board, tenths)?;
@@ -59,7 +60,7 @@ pub struct DayAhead;
 impl DefaultRule for DayAhead {
     ghost charge = { at_day_ahead_price };
 
-    ghost within = { λ board tenths takes. record { at_least_day_ahead = omega arith; at_most_top = day_ahead_charge_at_most_top board tenths } };
+    ghost within = { day_ahead_price_within };
 
     fn charged(board: &Board, tenths: u32) -> Result<u64, Refusal> {
         check(board, tenths)?;

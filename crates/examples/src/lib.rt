@@ -1,5 +1,7 @@
 // Tests of the library on examples worked by hand: both sides of each limit, the order of refusals, and what a refusal leaves alone. Two functions
 // promise that the laws of the rules shut out the mistakes of specs/Mistakes.antt.
+#![tactic(auto)]
+
 ghost use Rattle.examples.specs.WrongStatements.{AllZeros, CentsMissing, ChargedTooLittle, ChargedTooMuch, FailureRuleMatters, InfeasibleRuleMatters, InfeasibleSubtracted, SharingRuleMatters};
 ghost use Rattle.examples.specs.Mistakes.{ChargesAboveTop, ChargesNothing, FirstMemberGetsAll, RoundedAlone, UnitForNothing};
 

@@ -1,4 +1,6 @@
 // Settles two whole hours with the proved library: files each call by call, and prints its statement under both sharing rules.
+#![tactic(auto)]
+
 mod amounts;
 mod hour;
 mod table;

@@ -1,6 +1,8 @@
 // Sums of signed numbers, and the lemmas on products and floors that the crates above share.
 //
 // `total_within` promises the sum of any numbers whose sizes stay within a limit, and none for all others.
+#![tactic(auto)]
+
 ghost use Rattle.integers.specs.Totals.{total_of, size_of};
 ghost use Rattle.std.specs.Prelude.{◌≡◌, if◌then◌else◌, Some, None, nat_le};
 

@@ -2,6 +2,8 @@
 // equals.
 //
 // `LargestRemainder` promises the sharing rule's contract with the parts of `largest_remainder` in specs/Largest.antt, and the three laws of them.
+#![tactic(auto)]
+
 ghost use Rattle.std.specs.Prelude.{◌≡◌, ℕ, ◌+◌, ◌*◌, ◌<◌, ◌≤◌, map, length, pos, ◌+ℤ◌, ◌≤ℤ◌, count_by, nat_le, slice_index, unsigned_abs};
 ghost use Rattle.integers.specs.Totals.{total_of};
 ghost use Rattle.largest_remainder.specs.Largest.{floor_of, remainder_of, floors, all_remainders, missing_units, ahead_of, unit_for, largest_remainder};

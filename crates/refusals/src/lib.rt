@@ -1,4 +1,6 @@
 // Why a call is refused. Each refusal has one number, which is what an analyst sees.
+#![tactic(auto)]
+
 ghost use Rattle.std.specs.Prelude.{◌≡◌};
 ghost use Rattle.refusals.specs.Refused.{«number_of»};
 

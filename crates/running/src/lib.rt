@@ -1,6 +1,8 @@
 // The running rule: each part is the step from one rounded running total to the next.
 //
 // `Running` promises the sharing rule's contract with the parts of `running` in specs/Running.antt, and the three laws of them.
+#![tactic(auto)]
+
 ghost use Rattle.std.specs.Prelude.{◌≡◌, ◌*◌, ◌≤◌, length, pos, ◌*ℤ◌, ◌≤ℤ◌, unsigned_abs};
 ghost use Rattle.integers.specs.Totals.{total_of};
 ghost use Rattle.running.specs.Running.{rounded, running};

@@ -3,6 +3,8 @@
 // Every rule promises one list of parts for each total and weights in its range, and three laws of them: the parts add up to the total, each is less
 // than one unit from its exact share, and a weight of 0 gets 0. It refuses just what is out of its range, and then leaves the caller's parts alone.
 // `weight_sum` is the range check that the rules share.
+#![tactic(auto)]
+
 ghost use Rattle.sharing.specs.Shares.{Checks, Fair, InRange, Splits};
 ghost use Rattle.std.specs.Prelude.{List, ℤ};
 

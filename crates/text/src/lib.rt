@@ -1,6 +1,8 @@
 // Money and quantities as an analyst reads them, from whole cents and whole tenths of a MW.
 //
 // `Dollars` and `Megawatts` promise the bytes that they write, for every number, and `groups_lose_nothing` that the commas leave every digit in its place.
+#![tactic(auto)]
+
 ghost use Rattle.std.specs.Fmt.{WritesOnOk};
 ghost use Rattle.std.specs.Prelude.{Some};
 ghost use Rattle.text.specs.Texts.{GroupsLoseNothing, three_digits, grouped_by, most_groups, size_text, dollars_text, megawatts_text};
@@ -41,7 +43,7 @@ impl fmt::Display for ThreeDigits {
 
 // Writes a number of at most so many groups of three digits, with a comma between them.
 fn write_grouped<W: fmt::Write>(groups: u8, number: u64, f: &mut fmt::Formatter<W>) -> fmt::Result
-    ensures { WritesOnOk write_str_gives f.old result (grouped_by groups number) f.new }
+    ensures { WritesOnOk W.write_str_gives f.old result (grouped_by groups number) f.new }
 {
     if groups == 0 {
         return Ok(());

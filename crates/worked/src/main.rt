@@ -1,4 +1,6 @@
 // Works the settlement course's examples and one whole hour with the proved library, and prints what it did in words and figures.
+#![tactic(auto)]
+
 mod amounts;
 mod course;
 mod hour;

@@ -12,16 +12,16 @@ returns-then-size-left c =
     let xs = c.args.numbers.now in
     let i = c.loop-number.number-index in
     let f : SFits w64 (get_or xs i (pos 0)) = search rules in
-    let size : c.unsigned-abs-size.result ≡ nat_abs (get_or xs i (pos 0)) = simp to_z-of_z at c.unsigned-abs-size.ensures.value in
+    let size : c.unsigned_abs-size.result ≡ nat_abs (get_or xs i (pos 0)) = simp to_z-of_z at c.unsigned_abs-size.ensures.value in
     let over : c.args.most < size_of xs = omega (arith, size_more xs i (pos 0) c.loop-number-test.true, size_take_le xs (i + 1)) in
     sym (cond-false _ _ _ (lt-leb (size_of xs) c.args.most over))
 
-pub overflow-add-total : goal.overflow-add-total
-overflow-add-total c =
+pub overflow_add-total : goal.overflow_add-total
+overflow_add-total c =
     let xs = c.args.numbers.now in
     let i = c.loop-number.number-index in
     let f : SFits w64 (get_or xs i (pos 0)) = search rules in
-    let size : c.unsigned-abs-size.result ≡ nat_abs (get_or xs i (pos 0)) = simp to_z-of_z at c.unsigned-abs-size.ensures.value in
+    let size : c.unsigned_abs-size.result ≡ nat_abs (get_or xs i (pos 0)) = simp to_z-of_z at c.unsigned_abs-size.ensures.value in
     omega (arith, ints, total_at_most_size (take i xs))
 
 pub loop-number-preserved : goal.loop-number-preserved
@@ -29,7 +29,7 @@ loop-number-preserved c =
     let xs = c.args.numbers.now in
     let i = c.loop-number.number-index in
     let f : SFits w64 (get_or xs i (pos 0)) = search rules in
-    let size : c.unsigned-abs-size.result ≡ nat_abs (get_or xs i (pos 0)) = simp to_z-of_z at c.unsigned-abs-size.ensures.value in
+    let size : c.unsigned_abs-size.result ≡ nat_abs (get_or xs i (pos 0)) = simp to_z-of_z at c.unsigned_abs-size.ensures.value in
     let more = size_more xs i (pos 0) c.loop-number-test.true in
     (omega arith, omega (arith, ints, total_at_most_size (take i xs), total_more xs i (pos 0) c.loop-number-test.true))
 

@@ -5,8 +5,8 @@ use Rattle.sharing.proofs.Sizes.{product_small, product_fits}
 use Rattle.largest_remainder.specs.Largest.{floor_of, remainder_of}
 use Rattle.largest_remainder.proofs.divide.Goals as goal
 
-pub overflow-mul-product : goal.overflow-mul-product
-overflow-mul-product c =
+pub overflow_mul-product : goal.overflow_mul-product
+overflow_mul-product c =
     let fits_total : SFits w64 c.args.total = c.ranges.total in
     let fits_weight : SFits w64 c.args.weight = c.ranges.weight in
     simp to_z-of_z (product_fits c.args.total c.args.weight c.requires.total c.requires.weight)
@@ -20,10 +20,10 @@ returns c =
     let fits_weight : SFits w64 c.args.weight = c.ranges.weight in
     let fits_whole : SFits w64 whole = c.ranges.whole in
     let fits_product = product_fits c.args.total c.args.weight c.requires.total c.requires.weight in
-    let fits_floor : SFits w64 c.div-euclid.result = search rules in
-    let fits_remainder : SFits w64 c.rem-euclid.result = search rules in
-    let floor_is : c.div-euclid.result ≡ floor_of c.args.total whole c.args.weight = simp to_z-of_z at c.div-euclid.ensures in
-    let remainder_is = simp to_z-of_z at c.rem-euclid.ensures.value in
+    let fits_floor : SFits w64 c.div_euclid.result = search rules in
+    let fits_remainder : SFits w64 c.rem_euclid.result = search rules in
+    let floor_is : c.div_euclid.result ≡ floor_of c.args.total whole c.args.weight = simp to_z-of_z at c.div_euclid.ensures in
+    let remainder_is = simp to_z-of_z at c.rem_euclid.ensures.value in
     let small = product_small c.args.total c.args.weight c.requires.total c.requires.weight in
     record {
       floor = to_z-of_z w64 _ fits_floor ∙ floor_is;

@@ -7,8 +7,8 @@ use Rattle.largest_remainder.specs.Largest.{unit_for}
 use Rattle.largest_remainder.proofs.Fills.{handed_more}
 use Rattle.largest_remainder.proofs.hand_out.Goals as goal
 
-pub overflow-add-parts : goal.overflow-add-parts
-overflow-add-parts c =
+pub overflow_add-parts : goal.overflow_add-parts
+overflow_add-parts c =
     let k = c.loop-k.k in
     let one = c.unit.ensures.bound in
     let fits_part : SFits w64 (nth c.loop-k.parts k) = search rules in

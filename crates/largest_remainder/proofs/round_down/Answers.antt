@@ -61,5 +61,5 @@ returns c =
     record {
       floors = written;
       remainders = sym all_remainders ∙ inv.1 ∙ (λ j. map (remainder_of c.args.total (c.requires.sum j)) (all_weights j));
-      missing = c.unsigned-abs.ensures.value ∙ ap nat_abs (inv.2 ∙ ap (λ ps. c.args.total -ℤ total_of ps) (all_parts ∙ written));
+      missing = c.unsigned_abs.ensures.value ∙ ap nat_abs (inv.2 ∙ ap (λ ps. c.args.total -ℤ total_of ps) (all_parts ∙ written));
     }

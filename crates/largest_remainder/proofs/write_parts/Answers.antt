@@ -9,12 +9,12 @@ use Rattle.sharing.proofs.Sizes.{whole_small}
 use Rattle.largest_remainder.specs.Laws.{all_under, floors_small}
 use Rattle.largest_remainder.proofs.write_parts.Goals as goal
 
-pub hand-out-requires : goal.hand-out-requires
-hand-out-requires c =
+pub hand_out-requires : goal.hand_out-requires
+hand_out-requires c =
     let weights = c.args.weights.now in
     let total_is = to_z-of_z w64 c.args.total c.ranges.total in
-    let floors_are : c.round-down-missing.new.parts ≡ floors c.args.total weights = c.round-down-missing.ensures.floors ∙ ap (λ t. floors t weights) total_is in
-    let remainders_are : c.round-down-missing.new.remainders ≡ all_remainders c.args.total weights = c.round-down-missing.ensures.remainders ∙ ap (λ t. all_remainders t weights) total_is in
+    let floors_are : c.round_down-missing.new.parts ≡ floors c.args.total weights = c.round_down-missing.ensures.floors ∙ ap (λ t. floors t weights) total_is in
+    let remainders_are : c.round_down-missing.new.remainders ≡ all_remainders c.args.total weights = c.round_down-missing.ensures.remainders ∙ ap (λ t. all_remainders t weights) total_is in
     let range = c.requires.range in
     record {
       few = omega (arith, range.few_members, c.requires.beside);
@@ -27,9 +27,9 @@ pub returns : goal.returns
 returns c =
     let weights = c.args.weights.now in
     let total_is = to_z-of_z w64 c.args.total c.ranges.total in
-    let down = c.round-down-missing.ensures in
+    let down = c.round_down-missing.ensures in
     let floors_are = down.floors ∙ ap (λ t. floors t weights) total_is in
     let remainders_are = down.remainders ∙ ap (λ t. all_remainders t weights) total_is in
     let missing_is = down.missing ∙ ap (λ t. missing_units t weights) total_is in
-    let long : length c.round-down-missing.new.remainders ≡ length weights = ap length remainders_are ∙ length-map weights (remainder_of c.args.total (total_of weights)) in
-    c.hand-out.ensures ∙ (λ j. map (λ k. nth (floors_are j) k +ℤ pos (unit_for (missing_is j) (remainders_are j) k)) (range_with_len 0 (long j)))
+    let long : length c.round_down-missing.new.remainders ≡ length weights = ap length remainders_are ∙ length-map weights (remainder_of c.args.total (total_of weights)) in
+    c.hand_out.ensures ∙ (λ j. map (λ k. nth (floors_are j) k +ℤ pos (unit_for (missing_is j) (remainders_are j) k)) (range_with_len 0 (long j)))

@@ -3,8 +3,8 @@ use Rattle.std.proofs.lemmas.Int.{to_z-of_z}
 use Rattle.sharing.proofs.Sizes.{product_small, product_fits}
 use Rattle.running.proofs.first_parts.Goals as goal
 
-pub overflow-mul-total : goal.overflow-mul-total
-overflow-mul-total c =
+pub overflow_mul-total : goal.overflow_mul-total
+overflow_mul-total c =
     let fits_total : SFits w64 c.args.total = c.ranges.total in
     let fits_front : SFits w64 c.args.front = c.ranges.front in
     simp to_z-of_z (product_fits c.args.total c.args.front c.requires.total c.requires.front)

@@ -16,8 +16,8 @@ returns c =
     let fits_twice_n : SFits w64 (pos 2 *ℤ n) = omega (arith, ints) in
     let fits_twice_whole : SFits w64 (pos 2 *ℤ whole) = omega (arith, ints) in
     let fits_sum : SFits w64 (pos 2 *ℤ n +ℤ whole) = omega (arith, ints) in
-    let fits_result : SFits w64 c.div-euclid.result = search rules in
-    let value : c.div-euclid.result ≡ rounded whole n = simp to_z-of_z at c.div-euclid.ensures in
+    let fits_result : SFits w64 c.div_euclid.result = search rules in
+    let value : c.div_euclid.result ≡ rounded whole n = simp to_z-of_z at c.div_euclid.ensures in
     let positive : pos 1 ≤ℤ (pos 2 *ℤ whole) = omega (arith, ints) in
     let size : nat_abs (pos 2 *ℤ n +ℤ whole) ≤ 3 * (most_total * most_sizes) = omega (arith, ints) in
     record {

@@ -16,14 +16,14 @@ loop-k-init c =
     let fits_total : SFits w64 c.args.total = c.ranges.total in
     simp to_z-of_z (refl, sym (nobody c.args.total c.args.weights.now c.requires.range.whole), omega arith, below_none _)
 
-pub overflow-add-front : goal.overflow-add-front
-overflow-add-front c =
+pub overflow_add-front : goal.overflow_add-front
+overflow_add-front c =
     let front = front_small c.args.total c.args.weights.now c.requires.range c.loop-k.k in
     let one = one_small c.args.total c.args.weights.now c.requires.range c.loop-k.k c.loop-k-test.true in
     omega (arith, ints)
 
-pub first-parts-next-requires : goal.first-parts-next-requires
-first-parts-next-requires c =
+pub first_parts-next-requires : goal.first_parts-next-requires
+first_parts-next-requires c =
     let weights = c.args.weights.now in
     let k = c.loop-k.k in
     let fits_total : SFits w64 c.args.total = c.ranges.total in
@@ -43,14 +43,14 @@ loop-k-preserved c =
     let fits_weight : SFits w64 (nth weights k) = search rules in
     let small = next_small c.args.total weights c.requires.range k c.loop-k.front c.loop-k-test.true (sym c.loop-k.front-is ∙ c.loop-k.invariant.0) in
     let fits_next : SFits w64 (c.loop-k.front +ℤ nth weights k) = omega (arith, ints) in
-    let fits_result : SFits w64 c.first-parts-next.result = search rules in
-    let fits_part : SFits w64 (c.first-parts-next.result -ℤ c.loop-k.reached) = omega (arith, ints) in
+    let fits_result : SFits w64 c.first_parts-next.result = search rules in
+    let fits_part : SFits w64 (c.first_parts-next.result -ℤ c.loop-k.reached) = omega (arith, ints) in
     let inv = simp (to_z-of_z, c.loop-k.front-is, c.loop-k.reached-is) at c.loop-k.invariant in
-    let answer = simp (to_z-of_z, c.loop-k.front-is) at c.first-parts-next.ensures in
+    let answer = simp (to_z-of_z, c.loop-k.front-is) at c.first_parts-next.ensures in
     let reached : ℕ → ℤ = first_parts c.args.total weights in
     let front_is : c.loop-k.front +ℤ nth weights k ≡ total_of (take (k + 1) weights) = ap (λ z. z +ℤ nth weights k) inv.0 ∙ sym (total_more weights k (pos 0) c.loop-k-test.true) in
-    let next_is : c.first-parts-next.result ≡ reached (k + 1) = answer.value ∙ (λ j. rounded (c.requires.sum j) (c.args.total *ℤ front_is j)) in
-    let part_is : c.first-parts-next.result -ℤ c.loop-k.reached ≡ reached (k + 1) -ℤ reached k = λ j. next_is j -ℤ inv.1 j in
+    let next_is : c.first_parts-next.result ≡ reached (k + 1) = answer.value ∙ (λ j. rounded (c.requires.sum j) (c.args.total *ℤ front_is j)) in
+    let part_is : c.first_parts-next.result -ℤ c.loop-k.reached ≡ reached (k + 1) -ℤ reached k = λ j. next_is j -ℤ inv.1 j in
     let inside : k < length c.loop-k.parts = omega arith in
     simp (to_z-of_z, c.loop-k.front-is, c.loop-k.reached-is) (
       front_is,

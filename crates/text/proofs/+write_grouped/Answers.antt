@@ -13,5 +13,5 @@ returns g t c =
     let e = more_groups c.args.groups c.args.number (omega arith) c.if-number-lt1000.false in
     rw e
     (λ plain ok.
-    let front = c.in-ok-write-grouped.ensures plain refl in
+    let front = c.in_ok-write_grouped.ensures plain refl in
     has_written_append g.W.Write.write_str_gives _ _ _ _ _ front (c.write-2.ensures.writes front.plain ok))

@@ -1,4 +1,4 @@
 use Rattle.text.proofs.+write_grouped.Given as goal
 
-abbrev pub decreases-write-grouped : goal.decreases-write-grouped
-decreases-write-grouped g l = l.groups
+abbrev pub decreases-write_grouped : goal.decreases-write_grouped
+decreases-write_grouped g l = l.groups

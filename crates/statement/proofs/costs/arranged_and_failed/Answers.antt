@@ -7,12 +7,12 @@ use Rattle.statement.proofs.Lists.{sum_under}
 use Rattle.statement.proofs.Ranges.{ahead_small, failed_small}
 use Rattle.statement.proofs.costs.arranged_and_failed.Goals as goal
 
-pub overflow-add-arranged : goal.overflow-add-arranged
-overflow-add-arranged c =
+pub overflow_add-arranged : goal.overflow_add-arranged
+overflow_add-arranged c =
     omega (arith, sum_under (λ (r : Record). r.arranged.ahead) c.args.records.now c.loop-record.record-index blank most_roster_total c.loop-record-test.true (ahead_small c.args.records.now c.requires.kept))
 
-pub overflow-add-failed : goal.overflow-add-failed
-overflow-add-failed c =
+pub overflow_add-failed : goal.overflow_add-failed
+overflow_add-failed c =
     omega (arith, sum_under (λ (r : Record). r.failed) c.args.records.now c.loop-record.record-index blank most_roster_total c.loop-record-test.true (failed_small c.args.records.now c.requires.kept))
 
 pub loop-record-preserved : goal.loop-record-preserved

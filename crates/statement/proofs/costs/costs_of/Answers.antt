@@ -14,17 +14,17 @@ loop-row-preserved c =
     let small = c.requires.small i c.loop-row-test.true in
     let inv = simp (c.loop-row.ahead-is, c.loop-row.net-is) at c.loop-row.invariant in
     let award = (row_at rows i).amounts.award in
-    let own = c.own-sum-net.result in
+    let own = c.own_sum-net.result in
     let size_award = size_more c.loop-row.ahead award i (4 * most_amount) inv.1 (omega (arith, small.award)) in
-    let size_own = size_more c.loop-row.net own i (4 * most_amount) inv.3 c.own-sum-net.ensures.small in
+    let size_own = size_more c.loop-row.net own i (4 * most_amount) inv.3 c.own_sum-net.ensures.small in
     let fits_award : SFits w64 award = fits award most_amount small.award (omega arith) in
-    let fits_own : SFits w64 own = fits own (4 * most_amount) c.own-sum-net.ensures.small (omega arith) in
+    let fits_own : SFits w64 own = fits own (4 * most_amount) c.own_sum-net.ensures.small (omega arith) in
     let fits_ahead : SFits w64 (c.loop-row.ahead -ℤ award) = fits _ ((i + 1) * (4 * most_amount)) size_award (omega arith) in
     let fits_net : SFits w64 (c.loop-row.net -ℤ own) = fits _ ((i + 1) * (4 * most_amount)) size_own (omega arith) in
     simp (to_z-of_z, c.loop-row.ahead-is, c.loop-row.net-is) (
       less_more c.loop-row.ahead award _ _ inv.0 (total_more (λ (row : Row). row.amounts.award) rows i blank_row c.loop-row-test.true),
       size_award,
-      less_more c.loop-row.net own _ _ inv.2 (total_more own_sum rows i blank_row c.loop-row-test.true ∙ ap (λ z. total_of (map own_sum (take i rows)) +ℤ z) (sym c.own-sum-net.ensures.value)),
+      less_more c.loop-row.net own _ _ inv.2 (total_more own_sum rows i blank_row c.loop-row-test.true ∙ ap (λ z. total_of (map own_sum (take i rows)) +ℤ z) (sym c.own_sum-net.ensures.value)),
       size_own,
     )
 

@@ -8,10 +8,10 @@ use Rattle.statement.proofs.Lists.{total_pos}
 use Rattle.statement.proofs.Ranges.{covered, failed_small, limits, open_is}
 use Rattle.statement.proofs.costs.quantities_of.Goals as goal
 
-pub overflow-sub-result : goal.overflow-sub-result
-overflow-sub-result c =
+pub overflow_sub-result : goal.overflow_sub-result
+overflow_sub-result c =
     let keeps : Kept (records_of c.args.roster.now) = rw c.records.ensures.value at c.records.ensures.kept in
-    let ahead = rw c.records.ensures.value at c.arranged-and-failed-arranged.ensures.arranged in
+    let ahead = rw c.records.ensures.value at c.arranged_and_failed-arranged.ensures.arranged in
     omega (arith, ahead, ap (λ (t : Totals). t.obligations) c.totals-totals.ensures, covered (records_of c.args.roster.now) keeps.covered)
 
 pub returns : goal.returns
@@ -20,8 +20,8 @@ returns c =
     let keeps : Kept records = rw c.records.ensures.value at c.records.ensures.kept in
     let small = limits records keeps in
     let few_failed = failed_small records keeps in
-    let ahead = rw c.records.ensures.value at c.arranged-and-failed-arranged.ensures.arranged in
-    let failed = rw c.records.ensures.value at c.arranged-and-failed-arranged.ensures.failed in
+    let ahead = rw c.records.ensures.value at c.arranged_and_failed-arranged.ensures.arranged in
+    let failed = rw c.records.ensures.value at c.arranged_and_failed-arranged.ensures.failed in
     let awards = ap (λ (t : Totals). t.awards) c.totals-totals.ensures in
     let arranged_all = ap (λ (t : Totals). t.arranged) c.totals-totals.ensures in
     record {

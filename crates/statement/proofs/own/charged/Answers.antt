@@ -6,8 +6,8 @@ use Rattle.pricing.proofs.Invariants.{kept}
 use Rattle.statement.proofs.Bounds.{charge_small, taken}
 use Rattle.statement.proofs.own.charged.Goals as goal
 
-pub overflow-cast-result : goal.overflow-cast-result
-overflow-cast-result g c =
+pub overflow_cast-result : goal.overflow_cast-result
+overflow_cast-result g c =
     let board = plain c.args.board.now in
     let is = taken board c.args.tenths _ _ c.requires c.in-Ok.ensures in
     omega (arith, ints, is, charge_small board (kept c.args.board.now) c.args.tenths _ (g.met.R.DefaultRule.within board c.args.tenths c.requires), c.requires.small)

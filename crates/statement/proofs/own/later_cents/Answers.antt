@@ -8,8 +8,8 @@ use Rattle.statement.proofs.own.later_cents.Goals as goal
 back : (m : ℕ) → 1 ≤ m → m - 1 + 1 ≡ m + 1 - 1
 back m h = omega arith
 
-pub overflow-add-sum : goal.overflow-add-sum
-overflow-add-sum c =
+pub overflow_add-sum : goal.overflow_add-sum
+overflow_add-sum c =
     let market = c.loop-market.market in
     let price : get_or c.args.prices.now market 0 < 4294967296 = search rules in
     let award : get_or c.args.awards.now market 0 < 4294967296 = search rules in

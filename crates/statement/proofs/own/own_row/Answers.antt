@@ -10,20 +10,20 @@ use Rattle.statement.proofs.own.own_row.Goals as goal
 pub paid-requires : goal.paid-requires
 paid-requires g c =
     let r = c.args.record.now in
-    let award : c.cents.result ≡ award_cents (plain c.args.board.now) r 0 = c.cents.ensures.value ∙ ap (λ price. cents_of price (get_or r.awards 0 0)) c.day-ahead-price.ensures.value in
+    let award : c.cents.result ≡ award_cents (plain c.args.board.now) r 0 = c.cents.ensures.value ∙ ap (λ price. cents_of price (get_or r.awards 0 0)) c.day_ahead_price.ensures.value in
     omega (arith, award, paid_small (plain c.args.board.now) (kept c.args.board.now) r, c.requires.awards)
 
 pub paid-requires-2 : goal.paid-requires-2
 paid-requires-2 g c =
     let r = c.args.record.now in
-    let later = rw c.prices.ensures.value at c.later-cents.ensures in
+    let later = rw c.prices.ensures.value at c.later_cents.ensures in
     omega (arith, later, paid_small (plain c.args.board.now) (kept c.args.board.now) r, c.requires.awards)
 
 pub returns : goal.returns
 returns g c =
     let r = c.args.record.now in
-    let award = c.paid.ensures ∙ ap (λ n. neg_ℤ (pos n)) (c.cents.ensures.value ∙ ap (λ price. cents_of price (get_or r.awards 0 0)) c.day-ahead-price.ensures.value) in
-    let later = c.paid-2.ensures ∙ ap (λ n. neg_ℤ (pos n)) (rw c.prices.ensures.value at c.later-cents.ensures) in
+    let award = c.paid.ensures ∙ ap (λ n. neg_ℤ (pos n)) (c.cents.ensures.value ∙ ap (λ price. cents_of price (get_or r.awards 0 0)) c.day_ahead_price.ensures.value) in
+    let later = c.paid-2.ensures ∙ ap (λ n. neg_ℤ (pos n)) (rw c.prices.ensures.value at c.later_cents.ensures) in
     let fits_award : SFits w64 c.paid.result = search rules in
     let fits_later : SFits w64 c.paid-2.result = search rules in
     let fits_failure : SFits w64 c.charged.result = search rules in

@@ -11,8 +11,8 @@ use Rattle.statement.proofs.Lists.{fill_all, fill_more}
 use Rattle.statement.proofs.Ranges.{limits}
 use Rattle.statement.proofs.own.write_own.Goals as goal
 
-pub own-row-requires : goal.own-row-requires
-own-row-requires g c =
+pub own_row-requires : goal.own_row-requires
+own_row-requires g c =
     let records = c.args.records.now in
     let k = c.loop-k.k in
     let small = limits records c.requires.kept in
@@ -28,8 +28,8 @@ loop-k-preserved g c =
     let k = c.loop-k.k in
     let own : Record → Row = λ r. row_of (default_rules g.F.DefaultRule.charge g.I.DefaultRule.charge) (plain c.args.board.now) r (pos 0) (pos 0) in
     let room : k < length c.loop-k.rows = omega arith in
-    fill_more (map own records) c.loop-k.rows k c.own-row.result c.own-row.result room (omega (arith, length-map records own))
-    (c.own-row.ensures ∙ sym (get_or-map own records k blank c.own-row.result c.loop-k-test.true)) c.loop-k.invariant
+    fill_more (map own records) c.loop-k.rows k c.own_row.result c.own_row.result room (omega (arith, length-map records own))
+    (c.own_row.ensures ∙ sym (get_or-map own records k blank c.own_row.result c.loop-k-test.true)) c.loop-k.invariant
 
 pub returns : goal.returns
 returns g c =

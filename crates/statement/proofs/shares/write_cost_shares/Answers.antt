@@ -6,8 +6,8 @@ use Rattle.statement.proofs.Ranges.{open_in_range, open_long}
 use Rattle.statement.proofs.Shared.{takes_as}
 use Rattle.statement.proofs.shares.write_cost_shares.Goals as goal
 
-pub write-open-quantities-requires : goal.write-open-quantities-requires
-write-open-quantities-requires g c =
+pub write_open_quantities-requires : goal.write_open_quantities-requires
+write_open_quantities-requires g c =
     record {
       kept = c.requires.kept;
       requirement = c.requires.requirement;
@@ -24,6 +24,6 @@ share-requires g c =
     let shares = g.S.SharingRule.shares in
     let fair = g.met.S.SharingRule.fair in
     let loads = c.requires.loads (λ none. c.if-costs-ne0.true (ap (of_z w64) none)) in
-    takes_as cost _ (open_quantities shares records) _ _ (to_z-of_z w64 cost fits) c.write-open-quantities.ensures
-    (c.write-open-quantities.auto.parts ∙ ap length c.requires.zeros ∙ length-map records (λ _. pos 0) ∙ sym (open_long records c.requires.kept shares fair loads))
+    takes_as cost _ (open_quantities shares records) _ _ (to_z-of_z w64 cost fits) c.write_open_quantities.ensures
+    (c.write_open_quantities.auto.parts ∙ ap length c.requires.zeros ∙ length-map records (λ _. pos 0) ∙ sym (open_long records c.requires.kept shares fair loads))
     (open_in_range records c.requires.kept shares fair loads cost c.requires.little (c.requires.something (λ none. c.if-costs-ne0.true (ap (of_z w64) none))))

@@ -9,8 +9,8 @@ use Rattle.roster.proofs.Totals.{too_much_pushed}
 use Rattle.roster.proofs.Invariants.{kept, length_records}
 use Rattle.roster.proofs.roster.Roster.enrol.Goals as goal
 
-pub totals-joining-requires : goal.totals-joining-requires
-totals-joining-requires c =
+pub totals_joining-requires : goal.totals_joining-requires
+totals_joining-requires c =
     let made = c.newcomer-record.ensures in
     record { awards = ap awarded made; arranged = ap arranged made; defaults = ap defaulted made }
 
@@ -23,7 +23,7 @@ push-requires c =
     let next = records ++ new ∷ [] in
     let number : new.qse ≡ c.args.qse = ap (λ (r : Record). r.qse) made in
     let unknown : ltb 0 (enrolments c.args.qse records) ≡ false = sym c.enrolled.ensures ∙ c.if-enrolled.false in
-    let tried = given (above (totals_of next).loads || above (totals_of next).obligations) 8 (totals_of next) c.in-ok-totals.totals c.in-ok-totals.ensures in
+    let tried = given (above (totals_of next).loads || above (totals_of next).obligations) 8 (totals_of next) c.in_ok-totals.totals c.in_ok-totals.ensures in
     let small : too_much next ≡ false = too_much_pushed records new (kept roster).small (ap awarded made) (ap arranged made) (ap defaulted made) ∙ tried.0 in
     record {
       kept =

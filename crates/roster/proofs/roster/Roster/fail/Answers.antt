@@ -11,12 +11,12 @@ pub returns-then-kind-ge-KINDS : goal.returns-then-kind-ge-KINDS
 returns-then-kind-ge-KINDS c =
     let roster = c.args.self.now in
     let change = with_failed c.args.kind c.args.tenths in
-    no_such_place c.args.qse change (records_of roster) _ _ (kept roster) c.in-ok-place.ensures _ (above (totals_of (failing (records_of roster) c.args.qse c.args.kind c.args.tenths)).defaults) false
+    no_such_place c.args.qse change (records_of roster) _ _ (kept roster) c.in_ok-place.ensures _ (above (totals_of (failing (records_of roster) c.args.qse c.args.kind c.args.tenths)).defaults) false
     (le-leb _ _ c.if-kind-ge-KINDS.true)
 
 pub returns : goal.returns
 returns c =
     let roster = c.args.self.now in
     let change = with_failed c.args.kind c.args.tenths in
-    let found = c.in-ok-place.ensures in
-    answered c.args.qse change (records_of roster) _ _ (kept roster) found _ _ false _ _ _ (lt-leb _ _ c.if-kind-ge-KINDS.false) (only_defaults c.args.qse change (records_of roster) _ _ (kept roster) found refl refl refl refl) (sym (within c.args.qse change (records_of roster) _ _ (kept roster) found)) c.with-failed.ensures c.file.ensures
+    let found = c.in_ok-place.ensures in
+    answered c.args.qse change (records_of roster) _ _ (kept roster) found _ _ false _ _ _ (lt-leb _ _ c.if-kind-ge-KINDS.false) (only_defaults c.args.qse change (records_of roster) _ _ (kept roster) found refl refl refl refl) (sym (within c.args.qse change (records_of roster) _ _ (kept roster) found)) c.with_failed.ensures c.file.ensures

@@ -11,7 +11,7 @@ pub replace-requires : goal.replace-requires
 replace-requires c =
     let roster = c.args.self.now in
     let next = set (records_of roster) c.args.place c.args.new in
-    let tried = given (too_much next) 8 (totals_of next) c.in-ok-totals.totals c.in-ok-totals.ensures in
+    let tried = given (too_much next) 8 (totals_of next) c.in_ok-totals.totals c.in_ok-totals.ensures in
     record {
       place = c.requires.place;
       kept = kept_set (records_of roster) c.args.place c.args.new (kept roster) c.requires.place c.requires.same (le-ltb _ _ c.if-new.false) tried.0;

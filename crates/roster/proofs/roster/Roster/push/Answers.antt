@@ -14,8 +14,8 @@ room roster new keeps = omega (arith, keeps.few, length_push (records_of roster)
 pub bounds-self-self : goal.bounds-self-self
 bounds-self-self c = room c.args.self.now c.args.new c.requires.kept
 
-pub invariant-of-self : goal.invariant-of-self
-invariant-of-self c =
+pub invariant_of-self : goal.invariant_of-self
+invariant_of-self c =
     let roster = c.args.self.now in
     let free = room roster c.args.new c.requires.kept in
     held _ _ c.args.totals _ (length-set roster.records roster.count c.args.new ∙ roster.full) (omega (arith, free))

@@ -4,8 +4,8 @@ use Rattle.std.proofs.lemmas.List.{length-set}
 use Rattle.roster.proofs.Invariants.{held, length_records}
 use Rattle.roster.proofs.roster.Roster.replace.Goals as goal
 
-pub invariant-of-self : goal.invariant-of-self
-invariant-of-self c =
+pub invariant_of-self : goal.invariant_of-self
+invariant_of-self c =
     let roster = c.args.self.now in
     held _ roster.count c.args.totals _ (length-set roster.records c.args.place c.args.new ∙ roster.full) roster.few
     (take-set-lt roster.count roster.records c.args.place c.args.new (omega (arith, c.requires.place, length_records roster)))

@@ -15,5 +15,5 @@ returns c =
     (λ j. totals_with (roster.right j) (c.newcomer.ensures j) c.args.new.now) ∙ totals_pushed (records_of roster) c.args.new.now
     in
     let test = too_much_pushed (records_of roster) c.args.new.now (kept roster).small c.requires.awards c.requires.arranged c.requires.defaults in
-    subst (λ (b : Bool). Gives (first_of ((b, 8) ∷ [])) (totals_of (records_of roster ++ c.args.new.now ∷ [])) c.totals-with.result) test
-    (subst (λ (t : Totals). Gives (first_of ((one_above t, 8) ∷ [])) t c.totals-with.result) e c.totals-with.ensures)
+    subst (λ (b : Bool). Gives (first_of ((b, 8) ∷ [])) (totals_of (records_of roster ++ c.args.new.now ∷ [])) c.totals_with.result) test
+    (subst (λ (t : Totals). Gives (first_of ((one_above t, 8) ∷ [])) t c.totals_with.result) e c.totals_with.ensures)

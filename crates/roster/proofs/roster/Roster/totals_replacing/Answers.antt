@@ -9,8 +9,8 @@ use Rattle.roster.proofs.Invariants.{read_at}
 use Rattle.roster.proofs.Totals.{part_of, totals_set}
 use Rattle.roster.proofs.roster.Roster.totals_replacing.Goals as goal
 
-pub totals-with-requires : goal.totals-with-requires
-totals-with-requires c =
+pub totals_with-requires : goal.totals_with-requires
+totals_with-requires c =
     let roster = c.args.self.now in
     let part = part_of (records_of roster) c.args.place (get_or roster.records c.args.place blank) c.requires (read_at roster c.args.place c.requires) in
     record {
@@ -27,4 +27,4 @@ returns c =
     let e : totals_with roster.totals (get_or roster.records c.args.place blank) c.args.new.now ≡ totals_of (set (records_of roster) c.args.place c.args.new.now) =
     (λ j. totals_with (roster.right j) (read_at roster c.args.place c.requires j) c.args.new.now) ∙ totals_set (records_of roster) c.args.place c.args.new.now c.requires
     in
-    subst (λ (t : Totals). Gives (first_of ((one_above t, 8) ∷ [])) t c.totals-with.result) e c.totals-with.ensures
+    subst (λ (t : Totals). Gives (first_of ((one_above t, 8) ∷ [])) t c.totals_with.result) e c.totals_with.ensures

@@ -19,15 +19,15 @@ use Rattle.statement.proofs.statement.Statement.work_out.Goals as goal
 abbrev rules : given.Over → Rules
 rules g = rules_of g.S.SharingRule.shares g.F.DefaultRule.charge g.I.DefaultRule.charge
 
-pub work-rows-requires : goal.work-rows-requires
-work-rows-requires g c =
+pub work_rows-requires : goal.work_rows-requires
+work_rows-requires g c =
     let records = c.records-records.result.now in
     let keeps : Kept records = c.records-records.ensures.kept in
     let none = zeros records most_enrolled keeps.few in
     record {
       cleared = omega (arith, c.if-cleared-eq0.false, c.cleared.ensures.value);
       kept = keeps;
-      right = subst (Right c.quantities-of.result) (sym c.records-records.ensures.value) c.quantities-of.ensures;
+      right = subst (Right c.quantities_of.result) (sym c.records-records.ensures.value) c.quantities_of.ensures;
       weights = ap length none ∙ length-map records (λ _. pos 0);
       charges = none;
       shares = none;
@@ -39,23 +39,23 @@ filled : (written : List Row) (n : ℕ) → length written ≡ n → n ≤ most_
 filled written n long few =
     omega (arith, length-append written (drop n (replicate most_enrolled blank_row)), length-drop n (replicate most_enrolled blank_row), length-replicate most_enrolled blank_row, long, few)
 
-pub invariant-of-result : goal.invariant-of-result
-invariant-of-result g c =
+pub invariant_of-result : goal.invariant_of-result
+invariant_of-result g c =
     let records = c.records-records.result.now in
     let few = c.records-records.ensures.kept.few in
-    let done = c.in-ok-work-rows.ensures in
-    let long : length c.work-rows.new.rows ≡ length records = ap length done.1 ∙ length-map-range_with_len _ 0 (length records) in
-    (filled c.work-rows.new.rows (length records) long few, (few, tt))
+    let done = c.in_ok-work_rows.ensures in
+    let long : length c.work_rows.new.rows ≡ length records = ap length done.1 ∙ length-map-range_with_len _ 0 (length records) in
+    (filled c.work_rows.new.rows (length records) long few, (few, tt))
 
 pub returns : goal.returns
 returns g c =
     let records = c.records-records.result.now in
     let same = c.records-records.ensures.value in
     let board = plain c.args.board.now in
-    let done = c.in-ok-work-rows.ensures in
-    let long : length c.work-rows.new.rows ≡ length records = ap length done.1 ∙ length-map-range_with_len _ 0 (length records) in
-    let rows : take (length records) (c.work-rows.new.rows ++ drop (length records) (replicate most_enrolled blank_row)) ≡ statement (rules g) board records =
-    take_at c.work-rows.new.rows _ (length records) long ∙ done.1
+    let done = c.in_ok-work_rows.ensures in
+    let long : length c.work_rows.new.rows ≡ length records = ap length done.1 ∙ length-map-range_with_len _ 0 (length records) in
+    let rows : take (length records) (c.work_rows.new.rows ++ drop (length records) (replicate most_enrolled blank_row)) ≡ statement (rules g) board records =
+    take_at c.work_rows.new.rows _ (length records) long ∙ done.1
     in
     let ok = passed (rules g) board records done.0 in
     let laws : Lawful (rules g) board records (statement (rules g) board records) =

@@ -25,20 +25,20 @@ rules g = rules_of g.S.SharingRule.shares g.F.DefaultRule.charge g.I.DefaultRule
 defaults : (g : given.Over) → Defaults (rules g).defaults
 defaults g = record { failure = g.met.F.DefaultRule.within; infeasible = g.met.I.DefaultRule.within }
 
-pub returns-in-err-check : goal.returns-in-err-check
-returns-in-err-check g c =
+pub returns-in_err-check : goal.returns-in_err-check
+returns-in_err-check g c =
     let p = err_from_is_err_and c.from-residual.result c.from-residual.ensures.1 in
-    let costs = c.write-own-costs-costs in
+    let costs = c.write_own_costs-costs in
     rw (p.1, p.2)
     (refused_by (rules g) (plain c.args.board.now) c.args.records.now costs.result c.args.quantities c.requires.cleared costs.ensures.ahead costs.ensures.net c.requires.right
-    _ c.in-err-check.ensures)
+    _ c.in_err-check.ensures)
 
-pub write-charges-requires : goal.write-charges-requires
-write-charges-requires g c =
+pub write_charges-requires : goal.write_charges-requires
+write_charges-requires g c =
     let board = plain c.args.board.now in
     let records = c.args.records.now in
-    let costs = c.write-own-costs-costs in
-    let ok = checked (rules g) board records costs.result c.args.quantities c.requires.cleared costs.ensures.ahead costs.ensures.net c.requires.right c.in-ok-check.ensures in
+    let costs = c.write_own_costs-costs in
+    let ok = checked (rules g) board records costs.result c.args.quantities c.requires.cleared costs.ensures.ahead costs.ensures.net c.requires.right c.in_ok-check.ensures in
     record {
       kept = c.requires.kept;
       little = omega (arith, ap nat_abs costs.ensures.ahead, ahead_little (rules g) g.met.S.SharingRule.fair (defaults g) board (kept c.args.board.now) records c.requires.kept ok);
@@ -47,31 +47,31 @@ write-charges-requires g c =
       zeros = c.requires.charges;
     }
 
-pub write-cost-shares-requires : goal.write-cost-shares-requires
-write-cost-shares-requires g c =
+pub write_cost_shares-requires : goal.write_cost_shares-requires
+write_cost_shares-requires g c =
     let board = plain c.args.board.now in
     let records = c.args.records.now in
-    let costs = c.write-own-costs-costs in
-    let ok = checked (rules g) board records costs.result c.args.quantities c.requires.cleared costs.ensures.ahead costs.ensures.net c.requires.right c.in-ok-check.ensures in
+    let costs = c.write_own_costs-costs in
+    let ok = checked (rules g) board records costs.result c.args.quantities c.requires.cleared costs.ensures.ahead costs.ensures.net c.requires.right c.in_ok-check.ensures in
     record {
       kept = c.requires.kept;
       little = omega (arith, ap nat_abs costs.ensures.net, net_little (rules g) g.met.S.SharingRule.fair (defaults g) board (kept c.args.board.now) records c.requires.kept ok);
       requirement = c.requires.right.requirement;
       something = λ cost. ok.something (λ none. cost (costs.ensures.net ∙ none));
       loads = λ cost. some_load (rules g) g.met.S.SharingRule.fair (defaults g) board (kept c.args.board.now) records c.requires.kept ok (λ none. cost (costs.ensures.net ∙ none));
-      room = c.write-charges.auto.weights ∙ c.requires.weights;
+      room = c.write_charges.auto.weights ∙ c.requires.weights;
       zeros = c.requires.shares;
     }
 
-pub write-shared-requires : goal.write-shared-requires
-write-shared-requires g c =
+pub write_shared-requires : goal.write_shared-requires
+write_shared-requires g c =
     let board = plain c.args.board.now in
     let records = c.args.records.now in
-    let costs = c.write-own-costs-costs in
-    let ok = checked (rules g) board records costs.result c.args.quantities c.requires.cleared costs.ensures.ahead costs.ensures.net c.requires.right c.in-ok-check.ensures in
-    let charged : c.write-charges.new.parts ≡ charges (rules g) board records = c.write-charges.ensures ∙ ap (λ cost. parts_of (rules g).shares cost (map open_day_ahead records) records) costs.ensures.ahead in
-    let shared : c.write-cost-shares.new.parts ≡ cost_shares (rules g) board records =
-    c.write-cost-shares.ensures ∙ ap (λ cost. parts_of (rules g).shares cost (open_quantities (rules g).shares records) records) costs.ensures.net
+    let costs = c.write_own_costs-costs in
+    let ok = checked (rules g) board records costs.result c.args.quantities c.requires.cleared costs.ensures.ahead costs.ensures.net c.requires.right c.in_ok-check.ensures in
+    let charged : c.write_charges.new.parts ≡ charges (rules g) board records = c.write_charges.ensures ∙ ap (λ cost. parts_of (rules g).shares cost (map open_day_ahead records) records) costs.ensures.ahead in
+    let shared : c.write_cost_shares.new.parts ≡ cost_shares (rules g) board records =
+    c.write_cost_shares.ensures ∙ ap (λ cost. parts_of (rules g).shares cost (open_quantities (rules g).shares records) records) costs.ensures.net
     in
     let own : Record → Row = λ r. row_of (rules g).defaults board r (pos 0) (pos 0) in
     let long : length costs.new.rows ≡ length records = ap length costs.ensures.rows ∙ length-map records own in
@@ -90,16 +90,16 @@ pub returns : goal.returns
 returns g c =
     let board = plain c.args.board.now in
     let records = c.args.records.now in
-    let costs = c.write-own-costs-costs in
-    let charged : c.write-charges.new.parts ≡ charges (rules g) board records = c.write-charges.ensures ∙ ap (λ cost. parts_of (rules g).shares cost (map open_day_ahead records) records) costs.ensures.ahead in
-    let shared : c.write-cost-shares.new.parts ≡ cost_shares (rules g) board records =
-    c.write-cost-shares.ensures ∙ ap (λ cost. parts_of (rules g).shares cost (open_quantities (rules g).shares records) records) costs.ensures.net
+    let costs = c.write_own_costs-costs in
+    let charged : c.write_charges.new.parts ≡ charges (rules g) board records = c.write_charges.ensures ∙ ap (λ cost. parts_of (rules g).shares cost (map open_day_ahead records) records) costs.ensures.ahead in
+    let shared : c.write_cost_shares.new.parts ≡ cost_shares (rules g) board records =
+    c.write_cost_shares.ensures ∙ ap (λ cost. parts_of (rules g).shares cost (open_quantities (rules g).shares records) records) costs.ensures.net
     in
     let own : Record → Row = λ r. row_of (rules g).defaults board r (pos 0) (pos 0) in
     let long : length costs.new.rows ≡ length records = ap length costs.ensures.rows ∙ length-map records own in
     let made : (rows : List Row) (ds es : List ℤ) → ℕ → Row = λ rows ds es k. with_shares (row_at rows k) (nth ds k) (nth es k) in (
-      not_refused (rules g) board records costs.result c.args.quantities c.requires.cleared costs.ensures.ahead costs.ensures.net c.requires.right c.in-ok-check.ensures,
-      c.write-shared.ensures
+      not_refused (rules g) board records costs.result c.args.quantities c.requires.cleared costs.ensures.ahead costs.ensures.net c.requires.right c.in_ok-check.ensures,
+      c.write_shared.ensures
           ∙ (λ j. map (made (costs.ensures.rows j) (charged j) (shared j)) (range_with_len 0 (long j)))
           ∙ same_places (made (map own records) (charges (rules g) board records) (cost_shares (rules g) board records)) _ (length records)
           (λ k inside. ap (λ (row : Row). with_shares row (nth (charges (rules g) board records) k) (nth (cost_shares (rules g) board records) k)) (get_or-map own records k blank blank_row inside)),

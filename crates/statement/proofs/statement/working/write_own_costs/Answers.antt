@@ -15,19 +15,19 @@ use Rattle.statement.proofs.Lists.{map_map}
 use Rattle.statement.proofs.Ranges.{limits}
 use Rattle.statement.proofs.statement.working.write_own_costs.Goals as goal
 
-pub costs-of-requires : goal.costs-of-requires
-costs-of-requires g c =
+pub costs_of-requires : goal.costs_of-requires
+costs_of-requires g c =
     let records = c.args.records.now in
     let rules = default_rules g.F.DefaultRule.charge g.I.DefaultRule.charge in
     let board = plain c.args.board.now in
     let own : Record → Row = λ r. row_of rules board r (pos 0) (pos 0) in
-    let long : length c.write-own.new.rows ≡ length records = ap length c.write-own.ensures ∙ length-map records own in
+    let long : length c.write_own.new.rows ≡ length records = ap length c.write_own.ensures ∙ length-map records own in
     let small = limits records c.requires.kept in
     record {
       few = omega (arith, long, c.requires.kept.few);
       small = λ k inside.
           let there : k < length records = omega (arith, inside, long) in
-          let is : row_at c.write-own.new.rows k ≡ own (get_or records k blank) = ap (λ rows. row_at rows k) c.write-own.ensures ∙ get_or-map own records k blank blank_row there in
+          let is : row_at c.write_own.new.rows k ≡ own (get_or records k blank) = ap (λ rows. row_at rows k) c.write_own.ensures ∙ get_or-map own records k blank blank_row there in
           subst Small (sym is)
           (row_small rules board (record { failure = g.met.F.DefaultRule.within; infeasible = g.met.I.DefaultRule.within }) (kept c.args.board.now) c.requires.cleared (get_or records k blank) (pos 0) (pos 0)
           (omega (arith, get_or-le-sum_by awarded records k blank there, small.awards)) (omega (arith, get_or-le-sum_by defaulted records k blank there, small.defaults)) (omega arith) (omega arith));
@@ -38,8 +38,8 @@ returns g c =
     let records = c.args.records.now in
     let own : Record → Row = λ r. row_of (default_rules g.F.DefaultRule.charge g.I.DefaultRule.charge) (plain c.args.board.now) r (pos 0) (pos 0) in
     record {
-      rows = c.write-own.ensures;
-      ahead = c.costs-of.ensures.ahead ∙ ap (λ rows. neg_ℤ (total_of (map (λ (row : Row). row.amounts.award) rows))) c.write-own.ensures
+      rows = c.write_own.ensures;
+      ahead = c.costs_of.ensures.ahead ∙ ap (λ rows. neg_ℤ (total_of (map (λ (row : Row). row.amounts.award) rows))) c.write_own.ensures
           ∙ ap (λ zs. neg_ℤ (total_of zs)) (map_map (λ (row : Row). row.amounts.award) own records);
-      net = c.costs-of.ensures.net ∙ ap (λ rows. neg_ℤ (total_of (map own_sum rows))) c.write-own.ensures ∙ ap (λ zs. neg_ℤ (total_of zs)) (map_map own_sum own records);
+      net = c.costs_of.ensures.net ∙ ap (λ rows. neg_ℤ (total_of (map own_sum rows))) c.write_own.ensures ∙ ap (λ zs. neg_ℤ (total_of zs)) (map_map own_sum own records);
     }
