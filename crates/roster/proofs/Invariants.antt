@@ -28,8 +28,23 @@ kept roster =
 -- And the other way: a table that holds such records is a roster's.
 pub held : (table : List Record) (count : ℕ) (totals : Totals) (records : List Record) → length table ≡ most_enrolled → count ≤ most_enrolled → take count table ≡ records
     → totals ≡ totals_of records → Kept records
-    → (length table ≡ most_enrolled) × ((count ≤ most_enrolled) × ((totals ≡ totals_of (take count table)) × ((one_above totals ≡ false)
-    × ((how_many_above (take count table) ≡ 0) × (((qse : ℕ) → enrolments qse (take count table) ≤ 1) × ((enrolments 0 (take count table) ≡ 0) × Unit {0}))))))
+    → record {
+      full : length table ≡ most_enrolled;
+      few : count ≤ most_enrolled;
+      right : totals ≡ totals_of (take count table);
+      small : one_above totals ≡ false;
+      covered : how_many_above (take count table) ≡ 0;
+      distinct : (qse : ℕ) → enrolments qse (take count table) ≤ 1;
+      numbered : enrolments 0 (take count table) ≡ 0;
+    }
 held table count totals records full few same right keeps =
     let there : Kept (take count table) = subst Kept (sym same) keeps in
-    (full, (few, (right ∙ sym (ap totals_of same), (ap one_above right ∙ keeps.small, (there.covered, (there.distinct, (there.numbered, tt)))))))
+    record {
+      full = full;
+      few = few;
+      right = right ∙ sym (ap totals_of same);
+      small = ap one_above right ∙ keeps.small;
+      covered = there.covered;
+      distinct = there.distinct;
+      numbered = there.numbered;
+    }
