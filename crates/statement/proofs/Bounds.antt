@@ -55,8 +55,8 @@ module _ (board : PlainBoard) (keeps : boards.Kept board) where
   charge_small tenths cents within = omega (arith, within.at_most_top, cents_small (top_price board) tenths keeps.low_top)
 
 -- A default rule does not refuse what it takes.
-pub taken : (board : PlainBoard) (tenths charge cents : ℕ) → charges.Takes board tenths → Gives (charges.charge-refused board tenths) charge (Ok cents) → cents ≡ charge
-taken board tenths charge cents takes answer = same (ltb charges.most-quantity tenths) (eqb (length board.prices) 0) (le-ltb _ _ takes.small) (ne_eqb _ _ (λ none. absurd (omega (arith, none, takes.cleared)))) answer
+pub taken : (board : PlainBoard) (tenths charge cents : ℕ) → charges.Takes board tenths → Gives (charges.charge_refused board tenths) charge (Ok cents) → cents ≡ charge
+taken board tenths charge cents takes answer = same (ltb charges.most_quantity tenths) (eqb (length board.prices) 0) (le-ltb _ _ takes.small) (ne_eqb _ _ (λ none. absurd (omega (arith, none, takes.cleared)))) answer
   where
     same : (a b : Bool) → a ≡ false → b ≡ false → Gives (first_of ((a, 8) ∷ (b, 10) ∷ [])) charge (Ok cents) → cents ≡ charge
     same true b e f h = absurd (true≢false e)

@@ -59,8 +59,8 @@ pub(crate) struct Quantities {
 // What all QSEs arranged day-ahead, and what they failed.
 fn arranged_and_failed(records: &[Record]) -> (u32, u32)
     requires kept { Kept records.now }
-    ensures* arranged { λ r. ⌜ r.0 ≡ sum_by (λ r. r.arranged.ahead) records.now ⌝ }
-    ensures* failed { λ r. ⌜ r.1 ≡ sum_by (λ r. r.failed) records.now ⌝ }
+    ensures arranged { result.0 ≡ sum_by (λ r. r.arranged.ahead) records.now }
+    ensures failed { result.1 ≡ sum_by (λ r. r.failed) records.now }
 {
     let mut arranged: u32 = 0;
     let mut failed: u32 = 0;

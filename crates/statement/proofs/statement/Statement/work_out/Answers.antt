@@ -45,7 +45,7 @@ invariant_of-result g c =
     let few = c.records-records.ensures.kept.few in
     let done = c.in_ok-work_rows.ensures in
     let long : length c.work_rows.new.rows ≡ length records = ap length done.1 ∙ length-map-range_with_len _ 0 (length records) in
-    (filled c.work_rows.new.rows (length records) long few, (few, tt))
+    record { full = filled c.work_rows.new.rows (length records) long few; few = few }
 
 pub returns : goal.returns
 returns g c =

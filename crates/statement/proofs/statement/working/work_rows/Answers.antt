@@ -27,7 +27,7 @@ defaults g = record { failure = g.met.F.DefaultRule.within; infeasible = g.met.I
 
 pub returns-in_err-check : goal.returns-in_err-check
 returns-in_err-check g c =
-    let p = err_from_is_err_and c.from-residual.result c.from-residual.ensures.1 in
+    let p = err_from_is_err_and c.from_residual.result c.from_residual.ensures.1 in
     let costs = c.write_own_costs-costs in
     rw (p.1, p.2)
     (refused_by (rules g) (plain c.args.board.now) c.args.records.now costs.result c.args.quantities c.requires.cleared costs.ensures.ahead costs.ensures.net c.requires.right
