@@ -1,5 +1,5 @@
 -- Statements with a mistake that an analyst would make, each shut out by the laws that every statement keeps.
-use Rattle.std.specs.Prelude.{◌≡◌, ℕ, List, [], ◌∷◌, replicate, ℤ, pos, negsuc, None, ◌≢◌}
+use Rattle.std.specs.Prelude.{ℕ, List, [], ◌∷◌, replicate, ℤ, pos, negsuc, None, ◌≢◌}
 use Rattle.defaults.specs.Charges.{at_day_ahead_price, at_top_price}
 use Rattle.pricing.specs.Boards.{PlainBoard}
 use Rattle.largest_remainder.specs.Largest.{largest_remainder}

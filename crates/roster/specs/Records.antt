@@ -1,5 +1,5 @@
 -- The roster as plain data: a list of records in the order of enrolment, and what a roster keeps.
-use Rattle.std.specs.Prelude.{◌≡◌, ℕ, ◌+◌, ◌-◌, ◌≤◌, Bool, false, ◌||◌, List, length, sum_by, sum, count_by, nat_eq, nat_lt}
+use Rattle.std.specs.Prelude.{◌≡◌, ℕ, ◌+◌, ◌≤◌, Bool, false, ◌||◌, List, length, sum_by, sum, count_by, nat_eq, nat_lt}
 use Rattle.roster.specs.Limits.{most_enrolled, most_roster_total}
 use Rattle.roster.specs.declared.records.Record.{Record}
 use Rattle.roster.specs.declared.records.Totals.{Totals}

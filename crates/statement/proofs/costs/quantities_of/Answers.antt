@@ -1,6 +1,6 @@
 use Rattle.std.proofs.Common.{◌-◌, pos, sym, ap, ◌∙◌, arith}
 use borrow.Author.Differences.{ints}
-use Rattle.roster.specs.Records.{Kept, arranged}
+use Rattle.roster.specs.Records.{Kept}
 use Rattle.roster.specs.Views.{records_of}
 use Rattle.roster.specs.declared.records.Record.{Record}
 use Rattle.roster.specs.declared.records.Totals.{Totals}
