@@ -1,6 +1,6 @@
 -- Largest remainder: each part is first rounded down, and the missing units go one each to the largest remainders, the earlier member first among
 -- equals.
-use Rattle.std.specs.Prelude.{ℕ, ◌+◌, cond, ltb, List, map, length, take, drop, ℤ, pos, ◌+ℤ◌, ◌-ℤ◌, ◌*ℤ◌, count_by, nat_le, nat_lt, slice_index, unsigned_abs}
+use Rattle.std.specs.Prelude.{ℕ, ◌+◌, cond, List, map, length, take, drop, ℤ, pos, ◌+ℤ◌, ◌-ℤ◌, ◌*ℤ◌, count_by, nat_le, nat_lt, slice_index, unsigned_abs}
 use Rattle.std.specs.List.{range_with_len}
 use Rattle.std.specs.Int.{int_div_euclid, int_rem_euclid}
 use Rattle.integers.specs.Totals.{total_of}
@@ -28,7 +28,7 @@ missing_units total weights = unsigned_abs (total -ℤ total_of (floors total we
 
 -- How many members come before the member at k: the earlier ones with a remainder at least as large, and the later ones with a larger one.
 abbrev pub ahead_of : List ℕ → ℕ → ℕ
-ahead_of remainders k = count_by (nat_le (slice_index remainders k)) (take k remainders) + count_by (ltb (slice_index remainders k)) (drop (k + 1) remainders)
+ahead_of remainders k = count_by (nat_le (slice_index remainders k)) (take k remainders) + count_by (nat_lt (slice_index remainders k)) (drop (k + 1) remainders)
 
 -- A member gets a unit where fewer come before it than units are missing.
 abbrev pub unit_for : ℕ → List ℕ → ℕ → ℕ

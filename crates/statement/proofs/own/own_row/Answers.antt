@@ -1,17 +1,10 @@
-use Rattle.std.proofs.Common.{◌≡◌, get_or, pos, neg_ℤ, ap, ◌∙◌, arith, w64, SFits, rules}
+use Rattle.std.proofs.Common.{get_or, pos, neg_ℤ, ap, ◌∙◌, arith, w64, SFits, rules}
 use Rattle.std.proofs.lemmas.Int.{to_z-of_z}
 use Rattle.pricing.specs.Cents.{cents_of}
 use Rattle.pricing.specs.Views.{plain}
 use Rattle.pricing.proofs.Invariants.{kept}
-use Rattle.statement.specs.Amounts.{award_cents}
 use Rattle.statement.proofs.Bounds.{paid_small}
 use Rattle.statement.proofs.own.own_row.Goals as goal
-
-pub paid-requires : goal.paid-requires
-paid-requires g c =
-    let r = c.args.record.now in
-    let award : c.cents.result ≡ award_cents (plain c.args.board.now) r 0 = c.cents.ensures.value ∙ ap (λ price. cents_of price (get_or r.awards 0 0)) c.day_ahead_price.ensures.value in
-    omega (arith, award, paid_small (plain c.args.board.now) (kept c.args.board.now) r, c.requires.awards)
 
 pub paid-requires-2 : goal.paid-requires-2
 paid-requires-2 g c =

@@ -28,6 +28,6 @@ push-requires c =
     record {
       kept =
           kept_pushed records new (kept roster) (omega (arith, c.if-self-ge-MOST_ENROLLED.false, length_records roster)) (λ none. c.if-qse-eq0.false (sym number ∙ none))
-          (ap (λ n. enrolments n records) number ∙ omega (arith, ltb-false 0 (enrolments c.args.qse records) unknown)) (ap arranged_above made ∙ le-ltb c.args.obligation 0 (omega arith)) small;
+          (ap (λ n. enrolments n records) number ∙ omega (arith, ltb-false 0 (enrolments c.args.qse records) unknown)) (ap arranged_above made ∙ le-ltb _ 0 (omega arith)) small;
       right = tried.1;
     }

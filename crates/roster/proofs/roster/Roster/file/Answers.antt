@@ -1,4 +1,4 @@
-use Rattle.std.proofs.Common.{set}
+use Rattle.std.proofs.Common.{set, arith}
 use Rattle.std.proofs.lemmas.Bool.{le-ltb}
 use Rattle.roster.specs.Records.{totals_of, too_much}
 use Rattle.roster.specs.Views.{records_of}
@@ -14,6 +14,6 @@ replace-requires c =
     let tried = given (too_much next) 8 (totals_of next) c.in_ok-totals.totals c.in_ok-totals.ensures in
     record {
       place = c.requires.place;
-      kept = kept_set (records_of roster) c.args.place c.args.new (kept roster) c.requires.place c.requires.same (le-ltb _ _ c.if-new.false) tried.0;
+      kept = kept_set (records_of roster) c.args.place c.args.new (kept roster) c.requires.place c.requires.same (le-ltb _ _ (omega arith)) tried.0;
       right = tried.1;
     }
