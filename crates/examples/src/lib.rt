@@ -1,5 +1,5 @@
-// Tests of the library on examples worked by hand: both sides of each limit, the order of refusals, and what a refusal leaves alone. Two functions
-// promise that the laws of the rules shut out the mistakes of specs/Mistakes.antt.
+// Tests of the library on examples worked by hand: both sides of each limit, the order of refusals, and what a refusal leaves alone. Four functions
+// promise that the laws shut out the mistakes of specs/Mistakes.antt and specs/WrongStatements.antt, and that a statement asks its rules.
 #![tactic(auto)]
 
 ghost use Rattle.examples.specs.WrongStatements.{AllZeros, CentsMissing, ChargedTooLittle, ChargedTooMuch, FailureRuleMatters, InfeasibleRuleMatters, InfeasibleSubtracted, SharingRuleMatters};
