@@ -1,12 +1,12 @@
 -- What a board in memory keeps, of its plain board.
-use Rattle.std.proofs.Common.{ℕ, ◌+◌, ◌/◌, ◌<◌, ◌≤◌, Bool, true, false, cond, List, get_or, take, Some, None, Option, unwrap_or, ⊎_elim, arith}
-use native.Mathlib.Nat.{max-le}
+use Rattle.std.proofs.Common.{ℕ, ◌+◌, ◌/◌, ◌<◌, ◌≤◌, Bool, true, false, if◌then◌else◌, List, get_or, take, Some, None, Option, unwrap_or, ⊎_elim, arith}
+use Rattle.std.proofs.Math.Nat.{max-le}
 use Rattle.std.proofs.lemmas.List.{get_or_past, get_or-take, length-take}
 use Rattle.std.proofs.lemmas.Bool.{cases_lt}
 use Rattle.pricing.specs.Boards.{IntervalsKept, Kept, PricesKept, all_filed, all_prices, average_of, both_prices}
 use Rattle.pricing.specs.Limits.{intervals_of_an_hour, most_markets, most_price}
-use Rattle.pricing.specs.Views.{plain}
-use Rattle.pricing.specs.declared.board.Board.{Board}
+use Rattle.pricing.specs.Views.{Sound, plain}
+use Rattle.pricing.specs.declared.board.Board.TheInside.{Inside}
 use Rattle.pricing.specs.declared.board.interval.Interval.{Interval}
 use Rattle.pricing.proofs.Prices.{highest_kept}
 
@@ -23,14 +23,14 @@ low_average intervals fair = either (all_filed intervals) ((all_prices intervals
     one : (k : ℕ) → k < intervals_of_an_hour → both_prices (get_or intervals k None) ≤ most_price
     one k inside = fair k None (omega arith) inside
 
-    either : (b : Bool) (x : ℕ) → x ≤ most_price → unwrap_or (cond b (Some x) None) 0 ≤ most_price
+    either : (b : Bool) (x : ℕ) → x ≤ most_price → unwrap_or (if b then Some x else None) 0 ≤ most_price
     either true x h = h
     either false x h = omega arith
 
-pub kept : (board : Board) → Kept (plain board)
-kept board =
+pub kept : (board : Inside) → Sound board → Kept (plain board)
+kept board sound =
     record {
-      few = omega (arith, length-take board.cleared board.prices, board.few);
-      low = λ market. low_taken board.prices board.cleared market board.few board.low;
-      low_top = max-le (highest_kept board.prices board.cleared board.few board.low) (low_average board.intervals board.fair);
+      few = omega (arith, length-take board.cleared board.prices, sound.few);
+      low = λ market. low_taken board.prices board.cleared market sound.few sound.low;
+      low_top = max-le (highest_kept board.prices board.cleared sound.few sound.low) (low_average board.intervals sound.fair);
     }

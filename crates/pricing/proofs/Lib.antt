@@ -1,4 +1,3 @@
 pub mod Rounding
-mod Writes
 pub mod Prices
 pub mod Invariants

@@ -1,6 +1,6 @@
 -- The highest of some prices: no less than the first, and within whatever bounds them all.
 use Rattle.std.proofs.Common.{ℕ, suc, ◌<◌, ◌≤◌, max, List, [], ◌∷◌, length, get_or, take, fold, unwrap_or, le_trans, arith}
-use native.Mathlib.Nat.{le-max_left, le-max_right}
+use Rattle.std.proofs.Math.Nat.{le-max_left, le-max_right}
 use Rattle.std.proofs.lemmas.List.{get_or-take, length-take}
 use Rattle.pricing.specs.Boards.{PlainBoard, PricesKept, highest, average_of, day_ahead_price, top_price}
 use Rattle.pricing.specs.Limits.{most_price, most_markets}

@@ -1,8 +1,9 @@
 -- The price board as plain data: what may stand on it, how filing changes it, and what is read off it.
-use Rattle.std.specs.Prelude.{ℕ, ◌+◌, ◌/◌, ◌≤◌, max, Bool, cond, ◌&&◌, List, [], ◌∷◌, ◌++◌, length, replicate, is_some, Some, None, fold, Option, Result, nat_le, nat_lt, slice_index, slice_index_or, slice_set}
+use Rattle.std.specs.Prelude.{ℕ, ◌+◌, ◌/◌, ◌≤◌, max, Bool, if◌then◌else◌, ◌&&◌, List, [], ◌∷◌, ◌++◌, length, replicate, is_some, Some, None, fold, Option, Result, nat_le, nat_lt, slice_index, slice_index_or, slice_set}
 use Rattle.std.specs.Option.{unwrap_or}
 use Rattle.std.specs.List.{AllWithin}
 use Rattle.refusals.specs.declared.Refusal.{Refusal}
+use Rattle.refusals.specs.declared.Refusal.TheVariants.{NoSuchPlace, PriceAboveLimit}
 use Rattle.refusals.specs.Refused.{first_of, Changes}
 use Rattle.pricing.specs.Limits.{most_price, most_markets, intervals_of_an_hour}
 use Rattle.pricing.specs.declared.board.interval.Interval.{Interval}
@@ -34,8 +35,8 @@ abbrev pub clearing : PlainBoard → ℕ → PlainBoard
 clearing board price = record { prices = board.prices ++ price ∷ []; intervals = board.intervals }
 
 -- Refused: all markets have cleared, or the price is above the limit.
-abbrev pub clearing_refused : PlainBoard → ℕ → Option ℕ
-clearing_refused board price = first_of ((nat_le most_markets (length board.prices), 6) ∷ (nat_lt most_price price, 7) ∷ [])
+abbrev pub clearing_refused : PlainBoard → ℕ → Option Refusal
+clearing_refused board price = first_of ((nat_le most_markets (length board.prices), NoSuchPlace) ∷ (nat_lt most_price price, PriceAboveLimit) ∷ [])
 
 -- What the call answers and leaves.
 abbrev pub Clears : PlainBoard → ℕ → Result (Unit {0}) Refusal → PlainBoard → Type 0
@@ -46,8 +47,8 @@ abbrev pub correcting : PlainBoard → ℕ → ℕ → PlainBoard
 correcting board market price = record { prices = slice_set board.prices market price; intervals = board.intervals }
 
 -- Refused: the market has not cleared, or the price is above the limit.
-abbrev pub correcting_refused : PlainBoard → ℕ → ℕ → Option ℕ
-correcting_refused board market price = first_of ((nat_le (length board.prices) market, 6) ∷ (nat_lt most_price price, 7) ∷ [])
+abbrev pub correcting_refused : PlainBoard → ℕ → ℕ → Option Refusal
+correcting_refused board market price = first_of ((nat_le (length board.prices) market, NoSuchPlace) ∷ (nat_lt most_price price, PriceAboveLimit) ∷ [])
 
 -- What the call answers and leaves.
 abbrev pub Corrects : PlainBoard → ℕ → ℕ → Result (Unit {0}) Refusal → PlainBoard → Type 0
@@ -58,8 +59,8 @@ abbrev pub filing : PlainBoard → ℕ → Interval → PlainBoard
 filing board which interval = record { prices = board.prices; intervals = slice_set board.intervals which (Some interval) }
 
 -- Refused: there is no such interval, or the sum of its two prices is above the limit.
-abbrev pub filing_refused : ℕ → Interval → Option ℕ
-filing_refused which interval = first_of ((nat_le intervals_of_an_hour which, 6) ∷ (nat_lt most_price (both_prices (Some interval)), 7) ∷ [])
+abbrev pub filing_refused : ℕ → Interval → Option Refusal
+filing_refused which interval = first_of ((nat_le intervals_of_an_hour which, NoSuchPlace) ∷ (nat_lt most_price (both_prices (Some interval)), PriceAboveLimit) ∷ [])
 
 -- What the call answers and leaves.
 abbrev pub Files : PlainBoard → ℕ → Interval → Result (Unit {0}) Refusal → PlainBoard → Type 0
@@ -67,7 +68,7 @@ Files before which interval answer after = Changes (filing_refused which interva
 
 -- A cleared market's price.
 abbrev pub price_of : PlainBoard → ℕ → Option ℕ
-price_of board market = cond (nat_lt market (length board.prices)) (Some (slice_index board.prices market)) None
+price_of board market = if nat_lt market (length board.prices) then Some (slice_index board.prices market) else None
 
 -- The day-ahead price is market 0's, and 0 where no market has cleared.
 abbrev pub day_ahead_price : PlainBoard → ℕ
@@ -83,7 +84,7 @@ all_prices intervals = both_prices (slice_index_or intervals 0 None) + both_pric
 
 -- The average price: none until all four intervals are filed; then the sum of all eight prices divided by 4, a half rounded up.
 abbrev pub average_of : List (Option Interval) → Option ℕ
-average_of intervals = cond (all_filed intervals) (Some ((all_prices intervals + 2) / 4)) None
+average_of intervals = if all_filed intervals then Some ((all_prices intervals + 2) / 4) else None
 
 -- The highest of some prices, and 0 of none.
 abbrev pub highest : List ℕ → ℕ

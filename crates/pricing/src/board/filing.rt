@@ -1,5 +1,4 @@
 ghost use Rattle.pricing.specs.Boards.{Clears, Corrects, Files, empty_board};
-ghost use Rattle.pricing.specs.Views.{plain};
 ghost use Rattle.std.specs.Prelude.{◌≡◌};
 
 use crate::board::Board;
@@ -9,7 +8,7 @@ use refusals::Refusal;
 
 impl Board {
     pub fn new() -> Board
-        ensures { plain result ≡ empty_board }
+        ensures { result ≡ empty_board }
     {
         Board {
             prices: [0; MOST_MARKETS],
@@ -20,7 +19,7 @@ impl Board {
 
     // The next market gets its price.
     pub fn clear(&mut self, price: u32) -> Result<(), Refusal>
-        ensures { Clears (plain self.old) price result (plain self.new) }
+        ensures { Clears self.old price result self.new }
     {
         if self.cleared >= MOST_MARKETS {
             return Err(Refusal::NoSuchPlace);
@@ -37,7 +36,7 @@ impl Board {
 
     // A cleared market's price is replaced.
     pub fn correct(&mut self, market: usize, price: u32) -> Result<(), Refusal>
-        ensures { Corrects (plain self.old) market price result (plain self.new) }
+        ensures { Corrects self.old market price result self.new }
     {
         if market >= self.cleared {
             return Err(Refusal::NoSuchPlace);
@@ -53,12 +52,12 @@ impl Board {
 
     // An interval is filed, for the first time or again.
     pub fn interval(&mut self, which: usize, interval: Interval) -> Result<(), Refusal>
-        ensures { Files (plain self.old) which interval result (plain self.new) }
+        ensures { Files self.old which interval result self.new }
     {
         if which >= INTERVALS {
             return Err(Refusal::NoSuchPlace);
         }
-        if interval.online as u64 + interval.reliability as u64 > MOST_PRICE as u64 {
+        if interval.both_prices() > u64::from(MOST_PRICE) {
             return Err(Refusal::PriceAboveLimit);
         }
         let mut board = *self;

@@ -1,9 +1,6 @@
-ghost use Rattle.std.specs.Prelude.{◌≤◌};
-ghost use Rattle.pricing.specs.Boards.{PricesKept, IntervalsKept};
-ghost use Rattle.pricing.specs.Limits.{most_markets};
-
 use crate::board::interval::Interval;
 use crate::limits::{INTERVALS, MOST_MARKETS};
+use std::marker::Model;
 
 pub mod filing;
 pub mod interval;
@@ -15,7 +12,20 @@ pub struct Board {
     prices: [u32; MOST_MARKETS],
     cleared: usize,
     intervals: [Option<Interval>; INTERVALS],
-    ghost few: { cleared ≤ most_markets },
-    ghost low: { PricesKept prices },
-    ghost fair: { IntervalsKept intervals },
+}
+
+impl Model for Board {
+    ghost use Rattle.pricing.specs.Boards.{PlainBoard};
+
+    ghost Value = { PlainBoard };
+
+    ghost use Rattle.pricing.specs.Views.{plain, in_memory, Sound, in_memory_of_plain};
+
+    ghost view = { plain };
+
+    ghost invariant = { Sound };
+
+    ghost inverse = { in_memory };
+
+    ghost inverse_ok = { in_memory_of_plain };
 }

@@ -1,6 +1,5 @@
 ghost use Rattle.pricing.specs.Boards.{IntervalsKept, Kept, average_of, highest, price_of, day_ahead_price, top_price};
 ghost use Rattle.pricing.specs.Limits.{most_markets, most_price};
-ghost use Rattle.pricing.specs.Views.{plain};
 ghost use Rattle.std.specs.Option.{unwrap_or};
 ghost use Rattle.std.specs.Prelude.{◌≡◌, ◌≤◌, length};
 
@@ -17,32 +16,21 @@ fn average_of(intervals: [Option<Interval>; INTERVALS]) -> Option<u32>
     let [Some(a), Some(b), Some(c), Some(d)] = intervals else {
         return None;
     };
-    let sum = a.online
-        + a.reliability
-        + b.online
-        + b.reliability
-        + c.online
-        + c.reliability
-        + d.online
-        + d.reliability;
-    Some((sum + 2) / 4)
+    let sum = a.both_prices() + b.both_prices() + c.both_prices() + d.both_prices();
+    Some(((sum + 2) / 4) as u32)
 }
 
 // The highest of some prices, and 0 of none.
 fn highest_of(prices: &[u32]) -> u32
     ensures { result ≡ highest prices.now }
 {
-    let mut top: u32 = 0;
-    for price in prices {
-        top = top.max(*price);
-    }
-    top
+    prices.iter().fold(0, |top, price| top.max(*price))
 }
 
 impl Board {
     // How many markets have cleared.
     pub fn cleared(&self) -> usize
-        ensures value { result ≡ length (plain self.now).prices }
+        ensures value { result ≡ length self.now.prices }
         ensures few { result ≤ most_markets }
     {
         self.cleared
@@ -50,27 +38,23 @@ impl Board {
 
     // The prices of the markets that have cleared, in turn.
     pub fn prices(&self) -> &[u32]
-        ensures value { result.now ≡ (plain self.now).prices }
-        ensures kept { Kept (plain self.now) }
+        ensures value { result.now ≡ self.now.prices }
+        ensures kept { Kept self.now }
     {
         &self.prices[..self.cleared]
     }
 
     // A cleared market's price.
     pub fn price(&self, market: usize) -> Option<u32>
-        ensures value { result ≡ price_of (plain self.now) market }
+        ensures value { result ≡ price_of self.now market }
         ensures kept { unwrap_or result 0 ≤ most_price }
     {
-        if market < self.cleared {
-            Some(self.prices[market])
-        } else {
-            None
-        }
+        self.prices().get(market).copied()
     }
 
     // The average price, none until all four intervals are filed.
     pub fn average(&self) -> Option<u32>
-        ensures value { result ≡ average_of (plain self.now).intervals }
+        ensures value { result ≡ average_of self.now.intervals }
         ensures kept { unwrap_or result 0 ≤ most_price }
     {
         average_of(self.intervals)
@@ -78,26 +62,23 @@ impl Board {
 
     // Market 0's price, and 0 where no market has cleared.
     pub fn day_ahead_price(&self) -> u32
-        ensures value { result ≡ day_ahead_price (plain self.now) }
+        ensures value { result ≡ day_ahead_price self.now }
         ensures kept { result ≤ most_price }
     {
-        match self.price(0) {
-            Some(price) => price,
-            None => 0,
-        }
+        self.price(0).unwrap_or(0)
     }
 
     // The highest cleared price, and 0 where no market has cleared.
     fn highest_price(&self) -> u32
-        ensures value { result ≡ highest (plain self.now).prices }
+        ensures value { result ≡ highest self.now.prices }
         ensures kept { result ≤ most_price }
     {
-        highest_of(&self.prices[0..self.cleared])
+        highest_of(self.prices())
     }
 
     // The highest cleared price, or the average where there is one and it is higher.
     pub fn top_price(&self) -> u32
-        ensures value { result ≡ top_price (plain self.now) }
+        ensures value { result ≡ top_price self.now }
         ensures kept { result ≤ most_price }
     {
         let highest = self.highest_price();

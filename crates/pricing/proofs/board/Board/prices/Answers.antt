@@ -1,6 +1,5 @@
-use Rattle.std.proofs.Common.{refl}
 use Rattle.pricing.proofs.Invariants.{kept}
 use Rattle.pricing.proofs.board.Board.prices.Goals as goal
 
-pub returns : goal.returns
-returns c = record { value = refl; kept = kept c.args.self.now }
+pub returns-clause-kept : goal.returns-clause-kept
+returns-clause-kept c = rw c.self.view_is at (kept c.self.inside c.self.invariant)
