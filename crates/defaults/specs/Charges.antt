@@ -1,5 +1,7 @@
 -- What a default rule takes, what it refuses, and the two limits of what it charges.
 use Rattle.std.specs.Prelude.{ℕ, ◌≤◌, [], ◌∷◌, length, Option, ◌==◌, nat_lt}
+use Rattle.refusals.specs.declared.Refusal.{Refusal}
+use Rattle.refusals.specs.declared.Refusal.TheVariants.{QuantityAboveLimit, DayAheadNotCleared}
 use Rattle.refusals.specs.Refused.{first_of}
 use Rattle.pricing.specs.Boards.{PlainBoard, day_ahead_price, top_price}
 use Rattle.pricing.specs.Cents.{cents_of}
@@ -14,8 +16,8 @@ pub record Takes (board : PlainBoard) (tenths : ℕ) : Type 0 where
   pub cleared : 1 ≤ length board.prices
 
 -- It refuses just what it does not take.
-abbrev pub charge_refused : PlainBoard → ℕ → Option ℕ
-charge_refused board tenths = first_of ((nat_lt most_quantity tenths, 8) ∷ ((length board.prices == 0), 10) ∷ [])
+abbrev pub charge_refused : PlainBoard → ℕ → Option Refusal
+charge_refused board tenths = first_of ((nat_lt most_quantity tenths, QuantityAboveLimit) ∷ ((length board.prices == 0), DayAheadNotCleared) ∷ [])
 
 -- The cents of a quantity at the day-ahead price.
 abbrev pub at_day_ahead_price : PlainBoard → ℕ → ℕ

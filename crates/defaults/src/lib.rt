@@ -7,7 +7,7 @@
 
 ghost use Rattle.defaults.specs.Charges.{Takes, Within, charge_refused, at_top_price, at_day_ahead_price};
 ghost use Rattle.pricing.specs.Boards.{PlainBoard};
-ghost use Rattle.pricing.specs.Views.{plain};
+ghost use Rattle.pricing.specs.Cents.{cents_of};
 ghost use Rattle.refusals.specs.Refused.{Gives};
 ghost use Rattle.std.specs.Prelude.{ℕ};
 ghost use Rattle.defaults.specs.Limits.{day_ahead_price_within, top_price_within};
@@ -24,14 +24,14 @@ pub trait DefaultRule {
     ghost charge: { PlainBoard → ℕ → ℕ };
 
     fn charged(board: &Board, tenths: u32) -> Result<u64, Refusal>
-        ensures { Gives (charge_refused (plain board.now) tenths) (charge (plain board.now) tenths) result };
+        ensures { Gives (charge_refused board.now tenths) (charge board.now tenths) result };
 
     ghost within: { (board : PlainBoard) (tenths : ℕ) → Takes board tenths → Within board tenths (charge board tenths) };
 }
 
-// Refuses what no default rule takes.
-fn check(board: &Board, tenths: u32) -> Result<(), Refusal>
-    ensures { Gives (charge_refused (plain board.now) tenths) tt result }
+// What a quantity is charged at a price, where a default rule takes it.
+fn charged_at(price: u32, board: &Board, tenths: u32) -> Result<u64, Refusal>
+    ensures { Gives (charge_refused board.now tenths) (cents_of price tenths) result }
 {
     if tenths > MOST_QUANTITY {
         return Err(Refusal::QuantityAboveLimit);
@@ -39,7 +39,7 @@ fn check(board: &Board, tenths: u32) -> Result<(), Refusal>
     if board.cleared() == 0 {
         return Err(Refusal::DayAheadNotCleared);
     }
-    Ok(())
+    Ok(cents(price, tenths))
 }
 
 pub struct Highest;
@@ -50,8 +50,7 @@ impl DefaultRule for Highest {
     ghost within = { top_price_within };
 
     fn charged(board: &Board, tenths: u32) -> Result<u64, Refusal> {
-        check(board, tenths)?;
-        Ok(cents(board.top_price(), tenths))
+        charged_at(board.top_price(), board, tenths)
     }
 }
 
@@ -63,7 +62,6 @@ impl DefaultRule for DayAhead {
     ghost within = { day_ahead_price_within };
 
     fn charged(board: &Board, tenths: u32) -> Result<u64, Refusal> {
-        check(board, tenths)?;
-        Ok(cents(board.day_ahead_price(), tenths))
+        charged_at(board.day_ahead_price(), board, tenths)
     }
 }
