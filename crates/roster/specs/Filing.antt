@@ -1,6 +1,7 @@
 -- What each filing call makes of the roster, and when it is refused.
-use Rattle.std.specs.Prelude.{ℕ, Bool, cond, ◌||◌, List, [], ◌∷◌, ◌++◌, map, length, replicate, Option, Result, ◌==◌, nat_le, nat_lt, slice_set}
+use Rattle.std.specs.Prelude.{ℕ, Bool, if◌then◌else◌, ◌||◌, List, [], ◌∷◌, ◌++◌, map, length, replicate, Option, Result, ◌==◌, nat_le, nat_lt, slice_set}
 use Rattle.refusals.specs.declared.Refusal.{Refusal}
+use Rattle.refusals.specs.declared.Refusal.TheVariants.{WrongQse, RosterFull, NoSuchPlace, QuantityAboveLimit, ArrangedAboveObligation}
 use Rattle.refusals.specs.Refused.{first_of, Changes}
 use Rattle.pricing.specs.Limits.{most_markets}
 use Rattle.roster.specs.Limits.{most_enrolled, sides, kinds}
@@ -17,7 +18,7 @@ not_enrolled qse records = enrolments qse records == 0
 
 -- The record of the QSE named is changed, and every other stays as it was.
 abbrev pub changed : ℕ → (Record → Record) → List Record → List Record
-changed qse change records = map (λ r. cond (r.qse == qse) (change r) r) records
+changed qse change records = map (λ r. if r.qse == qse then change r else r) records
 
 -- A QSE of which only a load and an obligation are filed: nothing is awarded, arranged, failed or infeasible.
 abbrev pub newcomer : ℕ → ℕ → ℕ → Record
@@ -37,12 +38,12 @@ abbrev pub enrolling : List Record → ℕ → ℕ → ℕ → List Record
 enrolling records qse load obligation = records ++ newcomer qse load obligation ∷ []
 
 -- Refused: the number is 0 or enrolled, the roster is full, or the loads or the obligations would be above the limit.
-abbrev pub enrolling_refused : List Record → ℕ → ℕ → ℕ → Option ℕ
+abbrev pub enrolling_refused : List Record → ℕ → ℕ → ℕ → Option Refusal
 enrolling_refused records qse load obligation =
     first_of (
-    (qse == 0 || nat_lt 0 (enrolments qse records), 4)
-    ∷ (nat_le most_enrolled (length records), 5)
-    ∷ (above (totals_of (enrolling records qse load obligation)).loads || above (totals_of (enrolling records qse load obligation)).obligations, 8)
+    (qse == 0 || nat_lt 0 (enrolments qse records), WrongQse)
+    ∷ (nat_le most_enrolled (length records), RosterFull)
+    ∷ (above (totals_of (enrolling records qse load obligation)).loads || above (totals_of (enrolling records qse load obligation)).obligations, QuantityAboveLimit)
     ∷ []
     )
 
@@ -52,16 +53,16 @@ Enrols before qse load obligation answer after = Changes (enrolling_refused befo
 
 -- A record with another load.
 abbrev pub with_load : ℕ → Record → Record
-with_load load r =
-    record { qse = r.qse; load = load; obligation = r.obligation; awards = r.awards; arranged = r.arranged; failed = r.failed; infeasible = r.infeasible }
+with_load load r = record r { load = load }
 
 -- Loading: a QSE's load is replaced.
 abbrev pub loading : List Record → ℕ → ℕ → List Record
 loading records qse load = changed qse (with_load load) records
 
 -- Refused: nobody has this number, or the loads would be above the limit.
-abbrev pub loading_refused : List Record → ℕ → ℕ → Option ℕ
-loading_refused records qse load = first_of ((not_enrolled qse records, 4) ∷ (above (totals_of (loading records qse load)).loads, 8) ∷ [])
+abbrev pub loading_refused : List Record → ℕ → ℕ → Option Refusal
+loading_refused records qse load =
+    first_of ((not_enrolled qse records, WrongQse) ∷ (above (totals_of (loading records qse load)).loads, QuantityAboveLimit) ∷ [])
 
 -- What the call answers and leaves.
 abbrev pub Loads : List Record → ℕ → ℕ → Result (Unit {0}) Refusal → List Record → Type 0
@@ -69,17 +70,21 @@ Loads before qse load answer after = Changes (loading_refused before qse load) (
 
 -- A record with another award in one market.
 abbrev pub with_award : ℕ → ℕ → Record → Record
-with_award market tenths r =
-    record { qse = r.qse; load = r.load; obligation = r.obligation; awards = slice_set r.awards market tenths; arranged = r.arranged; failed = r.failed; infeasible = r.infeasible }
+with_award market tenths r = record r { awards = slice_set r.awards market tenths }
 
 -- Awarding: a QSE's award in one market is replaced.
 abbrev pub awarding : List Record → ℕ → ℕ → ℕ → List Record
 awarding records qse market tenths = changed qse (with_award market tenths) records
 
 -- Refused: nobody has this number, the market is not among those that have cleared, or the awards would be above the limit.
-abbrev pub awarding_refused : List Record → ℕ → ℕ → ℕ → ℕ → Option ℕ
+abbrev pub awarding_refused : List Record → ℕ → ℕ → ℕ → ℕ → Option Refusal
 awarding_refused records cleared qse market tenths =
-    first_of ((not_enrolled qse records, 4) ∷ (nat_le cleared market, 6) ∷ (above (totals_of (awarding records qse market tenths)).awards, 8) ∷ [])
+    first_of (
+    (not_enrolled qse records, WrongQse)
+    ∷ (nat_le cleared market, NoSuchPlace)
+    ∷ (above (totals_of (awarding records qse market tenths)).awards, QuantityAboveLimit)
+    ∷ []
+    )
 
 -- What the call answers and leaves.
 abbrev pub Awards : List Record → ℕ → ℕ → ℕ → ℕ → Result (Unit {0}) Refusal → List Record → Type 0
@@ -87,29 +92,20 @@ Awards before cleared qse market tenths answer after = Changes (awarding_refused
 
 -- A record with another quantity arranged on one side, day-ahead on side 0 and later on side 1.
 abbrev pub with_arranged : ℕ → ℕ → Record → Record
-with_arranged side tenths r =
-    record {
-      qse = r.qse;
-      load = r.load;
-      obligation = r.obligation;
-      awards = r.awards;
-      arranged = cond (side == 0) (record { ahead = tenths; later = r.arranged.later }) (record { ahead = r.arranged.ahead; later = tenths });
-      failed = r.failed;
-      infeasible = r.infeasible;
-    }
+with_arranged side tenths r = record r { arranged = if side == 0 then record (r.arranged) { ahead = tenths } else record (r.arranged) { later = tenths } }
 
 -- Arranging: a QSE's quantity on one side is replaced.
 abbrev pub arranging : List Record → ℕ → ℕ → ℕ → List Record
 arranging records qse side tenths = changed qse (with_arranged side tenths) records
 
 -- Refused: nobody has this number, there is no such side, the arranged quantities would be above the limit, or more would be arranged day-ahead than is owed.
-abbrev pub arranging_refused : List Record → ℕ → ℕ → ℕ → Option ℕ
+abbrev pub arranging_refused : List Record → ℕ → ℕ → ℕ → Option Refusal
 arranging_refused records qse side tenths =
     first_of (
-    (not_enrolled qse records, 4)
-    ∷ (nat_le sides side, 6)
-    ∷ (above (totals_of (arranging records qse side tenths)).arranged, 8)
-    ∷ (nat_lt 0 (how_many_above (arranging records qse side tenths)), 9)
+    (not_enrolled qse records, WrongQse)
+    ∷ (nat_le sides side, NoSuchPlace)
+    ∷ (above (totals_of (arranging records qse side tenths)).arranged, QuantityAboveLimit)
+    ∷ (nat_lt 0 (how_many_above (arranging records qse side tenths)), ArrangedAboveObligation)
     ∷ []
     )
 
@@ -119,25 +115,21 @@ Arranges before qse side tenths answer after = Changes (arranging_refused before
 
 -- A record with another failed quantity by kind 0, and with another infeasible quantity by kind 1.
 abbrev pub with_failed : ℕ → ℕ → Record → Record
-with_failed kind tenths r =
-    record {
-      qse = r.qse;
-      load = r.load;
-      obligation = r.obligation;
-      awards = r.awards;
-      arranged = r.arranged;
-      failed = cond (kind == 0) tenths r.failed;
-      infeasible = cond (kind == 0) r.infeasible tenths;
-    }
+with_failed kind tenths r = if kind == 0 then record r { failed = tenths } else record r { infeasible = tenths }
 
 -- Failing: a QSE's failed or infeasible quantity is replaced.
 abbrev pub failing : List Record → ℕ → ℕ → ℕ → List Record
 failing records qse kind tenths = changed qse (with_failed kind tenths) records
 
 -- Refused: nobody has this number, there is no such kind, or the failed and infeasible quantities together would be above the limit.
-abbrev pub failing_refused : List Record → ℕ → ℕ → ℕ → Option ℕ
+abbrev pub failing_refused : List Record → ℕ → ℕ → ℕ → Option Refusal
 failing_refused records qse kind tenths =
-    first_of ((not_enrolled qse records, 4) ∷ (nat_le kinds kind, 6) ∷ (above (totals_of (failing records qse kind tenths)).defaults, 8) ∷ [])
+    first_of (
+    (not_enrolled qse records, WrongQse)
+    ∷ (nat_le kinds kind, NoSuchPlace)
+    ∷ (above (totals_of (failing records qse kind tenths)).defaults, QuantityAboveLimit)
+    ∷ []
+    )
 
 -- What the call answers and leaves.
 abbrev pub Fails : List Record → ℕ → ℕ → ℕ → Result (Unit {0}) Refusal → List Record → Type 0

@@ -1,8 +1,9 @@
 -- How large awards, charges and costs can be, from the limits of the board and of the roster.
-use Rattle.std.proofs.Common.{◌≡◌, ℕ, suc, ◌+◌, ◌-◌, ◌*◌, ◌<◌, ◌≤◌, Bool, true, false, eqb, ltb, List, [], ◌∷◌, length, get_or, ℤ, pos, ◌+ℤ◌, ◌-ℤ◌, neg_ℤ, nat_abs, Ok, sum_by, sym, refl, ap, ◌∙◌, mul-le-mul_right, mul-le-mul, arith}
-use borrow.Author.Differences.{ints}
+use Rattle.std.proofs.Common.{◌≡◌, ℕ, suc, ◌+◌, ◌-◌, ◌*◌, ◌<◌, ◌≤◌, Bool, true, false, eqb, ltb, List, [], ◌∷◌, length, get_or, ℤ, pos, ◌+ℤ◌, ◌-ℤ◌, neg_ℤ, unsigned_abs, Ok, sum_by, sym, refl, ap, ◌∙◌, mul-le-mul_right, mul-le-mul, arith}
+use Rattle.std.proofs.lemmas.Int.{ints}
 use Rattle.std.proofs.lemmas.List.Sums.{sum_by-cons}
 use Rattle.std.proofs.lemmas.Bool.{le-ltb, ne_eqb, true≢false}
+use Rattle.refusals.specs.declared.Refusal.TheVariants.{QuantityAboveLimit, DayAheadNotCleared}
 use Rattle.refusals.specs.Refused.{Gives, first_of}
 use Rattle.pricing.specs.Boards.{PlainBoard, top_price}
 use Rattle.pricing.specs.Boards as boards
@@ -58,7 +59,7 @@ module _ (board : PlainBoard) (keeps : boards.Kept board) where
 pub taken : (board : PlainBoard) (tenths charge cents : ℕ) → charges.Takes board tenths → Gives (charges.charge_refused board tenths) charge (Ok cents) → cents ≡ charge
 taken board tenths charge cents takes answer = same (ltb charges.most_quantity tenths) (eqb (length board.prices) 0) (le-ltb _ _ takes.small) (ne_eqb _ _ (λ none. absurd (omega (arith, none, takes.cleared)))) answer
   where
-    same : (a b : Bool) → a ≡ false → b ≡ false → Gives (first_of ((a, 8) ∷ (b, 10) ∷ [])) charge (Ok cents) → cents ≡ charge
+    same : (a b : Bool) → a ≡ false → b ≡ false → Gives (first_of ((a, QuantityAboveLimit) ∷ (b, DayAheadNotCleared) ∷ [])) charge (Ok cents) → cents ≡ charge
     same true b e f h = absurd (true≢false e)
     same false true e f h = absurd (true≢false f)
     same false false e f h = grind arith
@@ -107,15 +108,15 @@ module _ (rules : DefaultRules) (board : PlainBoard) where
         let both = sum_by-cons defaulted r records in
         omega (arith, charged_small r (omega (arith, small, both)), all_charged records (omega (arith, small, both)), sum_by-cons charged r records, ap (λ n. 100000 * n) both)
 
-    pub net_small : (records : List Record) → sum_by awarded records ≤ most_roster_total → sum_by defaulted records ≤ most_roster_total → nat_abs (net_cost rules board records) ≤ most_cost
+    pub net_small : (records : List Record) → sum_by awarded records ≤ most_roster_total → sum_by defaulted records ≤ most_roster_total → unsigned_abs (net_cost rules board records) ≤ most_cost
     net_small records few_awards few_defaults =
         between (net_cost rules board records) (sum_by (paid board keeps) records) (sum_by charged records) (net_is records) (all_paid_small board keeps records few_awards) (omega (arith, all_charged records few_defaults, few_defaults))
       where
-        between : (n : ℤ) (P C : ℕ) → n ≡ pos P -ℤ pos C → P ≤ most_cost → C ≤ most_cost → nat_abs n ≤ most_cost
+        between : (n : ℤ) (P C : ℕ) → n ≡ pos P -ℤ pos C → P ≤ most_cost → C ≤ most_cost → unsigned_abs n ≤ most_cost
         between n P C e h k = omega (arith, ints)
 
     -- No amount of a row is too large.
-    pub row_small : (r : Record) (charge share : ℤ) → awarded r ≤ most_roster_total → defaulted r ≤ most_roster_total → nat_abs charge ≤ 8000000000000000 → nat_abs share ≤ 20000000000000000 → Small (row_of rules board r charge share)
+    pub row_small : (r : Record) (charge share : ℤ) → awarded r ≤ most_roster_total → defaulted r ≤ most_roster_total → unsigned_abs charge ≤ 8000000000000000 → unsigned_abs share ≤ 20000000000000000 → Small (row_of rules board r charge share)
     row_small r charge share few_awards few_defaults low_charge low_share =
         let paid_all = paid_small board keeps r in
         let failed = charge_small board keeps r.failed (rules.failure board r.failed) (failure_within r few_defaults) in
@@ -129,8 +130,8 @@ module _ (rules : DefaultRules) (board : PlainBoard) where
           adjustment = difference share charge low_share low_charge;
         }
       where
-        turned : (n : ℕ) → n ≤ most_amount → nat_abs (neg_ℤ (pos n)) ≤ most_amount
+        turned : (n : ℕ) → n ≤ most_amount → unsigned_abs (neg_ℤ (pos n)) ≤ most_amount
         turned n h = omega (arith, ints)
 
-        difference : (s c : ℤ) → nat_abs s ≤ 20000000000000000 → nat_abs c ≤ 8000000000000000 → nat_abs (s -ℤ c) ≤ most_amount
+        difference : (s c : ℤ) → unsigned_abs s ≤ 20000000000000000 → unsigned_abs c ≤ 8000000000000000 → unsigned_abs (s -ℤ c) ≤ most_amount
         difference s c h k = omega (arith, ints)

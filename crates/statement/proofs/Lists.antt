@@ -1,10 +1,11 @@
 -- Sums over lists, and lists made place by place.
-use Rattle.std.proofs.Common.{◌≡◌, ℕ, zero, suc, ◌+◌, ◌*◌, ◌<◌, ◌≤◌, List, [], ◌∷◌, ◌++◌, map, length, get_or, take, drop, set, replicate, ℤ, pos, ◌+ℤ◌, ◌-ℤ◌, neg_ℤ, sum_by, sum, sym, refl, ap, ◌∙◌, ⊎_elim, arith}
-use borrow.Author.Differences.{ints}
+use Rattle.std.proofs.Common.{◌≡◌, ℕ, zero, suc, ◌+◌, ◌-◌, ◌*◌, ◌<◌, ◌≤◌, List, [], ◌∷◌, ◌++◌, map, length, get_or, take, drop, set, replicate, ℤ, pos, ◌+ℤ◌, ◌-ℤ◌, neg_ℤ, unsigned_abs, sum_by, sum, sym, refl, ap, ◌∙◌, ⊎_elim, add-one, arith}
+use Rattle.std.proofs.lemmas.Int.{ints}
 use Rattle.std.specs.List.{range_with_len}
-use Rattle.std.proofs.lemmas.List.FromFn.{fill_by_all, get_or-map-range_with_len, length-map-range_with_len, sum_by-map-range_with_len_more}
-use Rattle.std.proofs.lemmas.List.{drop_all, get_or-map, get_or_past, length-map, map_more, take_all, take_more, take_more_set, take-replicate}
+use Rattle.std.proofs.lemmas.List.FromFn.{fill_by_all, get_or-map-range_with_len, length-map-range_with_len, map-range_with_len_more, sum_by-map-range_with_len_more}
+use Rattle.std.proofs.lemmas.List.{drop_all, get_or-map, get_or_past, length-map, map_more, take_more_set, take-replicate}
 use Rattle.std.proofs.lemmas.List.Sums.{sum-map, sum_by-cons, sum_by-drop_more, sum_by_more, sum_by-take-le}
+use Rattle.std.proofs.Math.Seq.{drop-cons}
 use Rattle.std.proofs.lemmas.Bool.{cases_lt}
 use Rattle.integers.specs.Totals.{total_of, size_of}
 use Rattle.integers.proofs.Totals.{total_push}
@@ -28,7 +29,7 @@ module _ {X : Type 0} where
 
   pub size_minus : (f g : X → ℤ) (xs : List X) → size_of (map (λ x. f x -ℤ g x) xs) ≤ size_of (map f xs) + size_of (map g xs)
   size_minus f g [] = omega arith
-  size_minus f g (x ∷ xs) = omega (arith, ints, size_minus f g xs)
+  size_minus f g (x ∷ xs) = omega (arith, ints, size_minus f g xs, sum_by-cons unsigned_abs (f x -ℤ g x) (map (λ x. f x -ℤ g x) xs), sum_by-cons unsigned_abs (f x) (map f xs), sum_by-cons unsigned_abs (g x) (map g xs))
 
   pub total_none : (xs : List X) → total_of (map (λ _. pos 0) xs) ≡ pos 0
   total_none [] = refl
@@ -41,7 +42,7 @@ module _ {X : Type 0} where
 
   pub size_pos : (f : X → ℕ) (xs : List X) → size_of (map (λ x. pos (f x)) xs) ≡ sum_by f xs
   size_pos f [] = refl
-  size_pos f (x ∷ xs) = omega (arith, size_pos f xs, sum_by-cons f x xs)
+  size_pos f (x ∷ xs) = omega (arith, size_pos f xs, sum_by-cons f x xs, sum_by-cons unsigned_abs (pos (f x)) (map (λ x. pos (f x)) xs))
 
   -- And the same with a minus sign.
   pub total_neg : (f : X → ℕ) (xs : List X) → neg_ℤ (total_of (map (λ x. neg_ℤ (pos (f x))) xs)) ≡ pos (sum_by f xs)
@@ -68,6 +69,13 @@ places_at_most xs a (suc n) =
     (λ past. omega (arith, first, rest, get_or_past xs a 0 past, ap sum (drop_all (a + 1) xs (omega arith))))
     (cases_lt a (length xs))
 
+-- What stands from a place on, read place by place.
+pub map-drop : {X Y : Type 0} (f : X → Y) (g : ℕ → Y) (xs : List X) (d : X) (a n : ℕ) → n ≡ length xs - a → ((k : ℕ) → k < length xs → f (get_or xs k d) ≡ g k) → map f (drop a xs) ≡ map g (range_with_len a n)
+map-drop f g xs d a zero e same = ap (map f) (drop_all a xs (omega arith))
+map-drop f g xs d a (suc n) e same =
+    let one : drop a xs ≡ get_or xs a d ∷ drop (a + 1) xs = rw add-one (drop-cons xs a d (omega arith)) in
+    ap (map f) one ∙ (λ j. same a (omega arith) j ∷ map-drop f g xs d (a + 1) n (omega arith) same j)
+
 pub sumBy_map : {X Y : Type 0} (g : Y → ℕ) (f : X → Y) (xs : List X) → sum_by g (map f xs) ≡ sum_by (λ x. g (f x)) xs
 sumBy_map g f [] = refl
 sumBy_map g f (x ∷ xs) = sum_by-cons g (f x) (map f xs) ∙ ap (λ n. g (f x) + n) (sumBy_map g f xs) ∙ sym (sum_by-cons (λ x. g (f x)) x xs)
@@ -83,13 +91,10 @@ sum_under f xs i d most inside small = omega (arith, sum_by_more f xs i d inside
 pub total_more : {X : Type 0} (f : X → ℤ) (xs : List X) (i : ℕ) (d : X) → i < length xs → total_of (map f (take (i + 1) xs)) ≡ total_of (map f (take i xs)) +ℤ f (get_or xs i d)
 total_more f xs i d inside = ap total_of (map_more f xs i d inside) ∙ total_push (map f (take i xs)) (f (get_or xs i d))
 
--- One more is written of the list that is wanted, and at the end it is that list.
-module _ {X : Type 0} (all written : List X) (i : ℕ) where
-  pub fill_more : (value d : X) → i < length written → i < length all → value ≡ get_or all i d → take i written ≡ take i all → take (i + 1) (set written i value) ≡ take (i + 1) all
-  fill_more value d room inside e inv = take_more_set written i value room ∙ (λ j. inv j ++ e j ∷ []) ∙ sym (take_more all i d inside)
-
-  pub fill_all : length written ≤ i → length all ≤ i → take i written ≡ take i all → written ≡ all
-  fill_all room inside inv = sym (take_all i written room) ∙ inv ∙ take_all i all inside
+-- One more place is written of a list that is made place by place.
+pub take-set-places : {X : Type 0} (f : ℕ → X) (written : List X) (k : ℕ) (value : X) → k < length written → value ≡ f k → take k written ≡ map f (range_with_len 0 k)
+    → take (k + 1) (set written k value) ≡ map f (range_with_len 0 (k + 1))
+take-set-places f written k value room here before = take_more_set written k value room ∙ (λ j. before j ++ here j ∷ []) ∙ sym (map-range_with_len_more f 0 k k (omega arith))
 
 -- Lists made place by place are the same where they are the same at each place.
 pub same_places : {X : Type 0} (f g : ℕ → X) (n : ℕ) → ((k : ℕ) → k < n → f k ≡ g k) → map f (range_with_len 0 n) ≡ map g (range_with_len 0 n)

@@ -1,11 +1,12 @@
 -- What the checks of a statement tell once they are passed.
-use Rattle.std.proofs.Common.{◌≡◌, ℕ, ◌≤◌, Bool, true, false, not, ◌&&◌, eqb, List, [], ◌∷◌, map, length, ℤ, pos, nat_abs, ◌≤ℤ◌, Some, None, Ok, Err, Option, sym, refl, ap, ◌∙◌, subst, arith}
+use Rattle.std.proofs.Common.{◌≡◌, ℕ, ◌≤◌, Bool, true, false, not, ◌&&◌, eqb, List, [], ◌∷◌, map, length, ℤ, pos, unsigned_abs, ◌≤ℤ◌, Some, None, Ok, Err, Option, sym, refl, ap, ◌∙◌, subst, arith}
 use lib.Signed.{lt_z}
-use borrow.Author.Differences.{ints}
+use Rattle.std.proofs.lemmas.Int.{ints}
 use Rattle.std.proofs.lemmas.Bool.{cond-false, eqb-true, eqb-false, eq-eqb, ne_eqb}
 use Rattle.integers.specs.Totals.{total_of}
-use Rattle.refusals.specs.Refused.{Gives, first_of, number_of}
+use Rattle.refusals.specs.Refused.{Gives, first_of}
 use Rattle.refusals.specs.declared.Refusal.{Refusal}
+use Rattle.refusals.specs.declared.Refusal.TheVariants.{DayAheadNotCleared, NoLoad, NothingBought, NothingOpenDayAhead}
 use Rattle.pricing.specs.Boards.{PlainBoard}
 use Rattle.roster.specs.declared.records.Record.{Record}
 use Rattle.statement.specs.Amounts.{Rules, day_ahead_cost, is_zero, net_cost, refused}
@@ -15,16 +16,16 @@ use Rattle.statement.specs.declared.costs.Quantities.{Quantities}
 use Rattle.statement.specs.Quantities.{bought, load_of, open_day_ahead}
 
 pub zero_true : (z : ℤ) → is_zero z ≡ true → z ≡ pos 0
-zero_true z e = omega (arith, ints, eqb-true (nat_abs z) 0 e)
+zero_true z e = omega (arith, ints, eqb-true (unsigned_abs z) 0 e)
 
 pub zero_false : (z : ℤ) → is_zero z ≡ false → z ≡ pos 0 → ⊥
-zero_false z e none = eqb-false (nat_abs z) 0 e (ap nat_abs none)
+zero_false z e none = eqb-false (unsigned_abs z) 0 e (ap unsigned_abs none)
 
 pub is_zero_true : (z : ℤ) → z ≡ pos 0 → is_zero z ≡ true
-is_zero_true z none = eq-eqb (nat_abs z) 0 (ap nat_abs none)
+is_zero_true z none = eq-eqb (unsigned_abs z) 0 (ap unsigned_abs none)
 
 pub is_zero_false : (z : ℤ) → (z ≡ pos 0 → ⊥) → is_zero z ≡ false
-is_zero_false z some = ne_eqb (nat_abs z) 0 (λ e. some (omega (arith, ints)))
+is_zero_false z some = ne_eqb (unsigned_abs z) 0 (λ e. some (omega (arith, ints)))
 
 -- What holds of the three weights where nothing is refused.
 pub record Passed (rules : Rules) (board : PlainBoard) (records : List Record) : Type 0 where
@@ -33,7 +34,7 @@ pub record Passed (rules : Rules) (board : PlainBoard) (records : List Record) :
   pub something : (net_cost rules.defaults board records ≡ pos 0 → ⊥) → pos 1 ≤ℤ bought records
   pub loads : (net_cost rules.defaults board records ≡ pos 0 → ⊥) → total_of (map load_of records) ≡ pos 0 → ⊥
 
-none_of : (a b c d e f : Bool) → first_of ((a, 10) ∷ (not b && c, 12) ∷ (not d && e, 13) ∷ (not d && f, 14) ∷ []) ≡ None
+none_of : (a b c d e f : Bool) → first_of ((a, DayAheadNotCleared) ∷ (not b && c, NothingOpenDayAhead) ∷ (not d && e, NothingBought) ∷ (not d && f, NoLoad) ∷ []) ≡ None
     → (a ≡ false) × (b ≡ false → c ≡ false) × (d ≡ false → e ≡ false) × (d ≡ false → f ≡ false)
 none_of a b c d e f h = grind arith
 
@@ -60,38 +61,38 @@ passed rules board records e =
 pub refused_as : (rules : Rules) (board : PlainBoard) (records : List Record) (ahead net some : ℤ) (left loads : ℕ) → eqb (length board.prices) 0 ≡ false
     → ahead ≡ day_ahead_cost board records → net ≡ net_cost rules.defaults board records → pos left ≡ total_of (map open_day_ahead records) → some ≡ bought records
     → pos loads ≡ total_of (map load_of records)
-    → first_of ((not (is_zero ahead) && eqb left 0, 12) ∷ (not (is_zero net) && lt_z some (pos 1), 13) ∷ (not (is_zero net) && eqb loads 0, 14) ∷ []) ≡ refused rules board records
+    → first_of ((not (is_zero ahead) && eqb left 0, NothingOpenDayAhead) ∷ (not (is_zero net) && lt_z some (pos 1), NothingBought) ∷ (not (is_zero net) && eqb loads 0, NoLoad) ∷ []) ≡ refused rules board records
 refused_as rules board records ahead net some left loads cleared ahead_is net_is left_is some_is loads_is =
     (λ j.
     first_of (
-    (not (is_zero (ahead_is j)) && is_zero (left_is j), 12)
-    ∷ (not (is_zero (net_is j)) && lt_z (some_is j) (pos 1), 13)
-    ∷ (not (is_zero (net_is j)) && is_zero (loads_is j), 14)
+    (not (is_zero (ahead_is j)) && is_zero (left_is j), NothingOpenDayAhead)
+    ∷ (not (is_zero (net_is j)) && lt_z (some_is j) (pos 1), NothingBought)
+    ∷ (not (is_zero (net_is j)) && is_zero (loads_is j), NoLoad)
     ∷ []
     ))
-    ∙ sym (cond-false (eqb (length board.prices) 0) (Some 10) _ cleared)
+    ∙ sym (cond-false (eqb (length board.prices) 0) (Some DayAheadNotCleared) _ cleared)
 
 -- What an answer says of the tests.
-pub test_of_ok : {V : Type 0} (test : Option ℕ) (value answer : V) → Gives test value (Ok answer) → test ≡ None
+pub test_of_ok : {V : Type 0} (test : Option Refusal) (value answer : V) → Gives test value (Ok answer) → test ≡ None
 test_of_ok None value answer h = refl
-test_of_ok (Some number) value answer h = absurd (grind arith)
+test_of_ok (Some refusal') value answer h = absurd (grind arith)
 
-pub test_of_err : {V : Type 0} (test : Option ℕ) (value : V) (refusal : Refusal) → Gives test value (Err refusal) → test ≡ Some (number_of refusal)
+pub test_of_err : {V : Type 0} (test : Option Refusal) (value : V) (refusal : Refusal) → Gives test value (Err refusal) → test ≡ Some refusal
 test_of_err None value refusal h = absurd (grind arith)
-test_of_err (Some number) value refusal h = sym h
+test_of_err (Some refusal') value refusal h = cc
 
-pub gives_ok : {V : Type 0} (test : Option ℕ) (value answer : V) → test ≡ None → answer ≡ value → Gives test value (Ok answer)
-gives_ok test value answer none same = subst (λ (o : Option ℕ). Gives o value (Ok answer)) (sym none) (ap Ok same)
+pub gives_ok : {V : Type 0} (test : Option Refusal) (value answer : V) → test ≡ None → answer ≡ value → Gives test value (Ok answer)
+gives_ok test value answer none same = subst (λ (o : Option Refusal). Gives o value (Ok answer)) (sym none) (ap Ok same)
 
 -- The numbers that were checked are those of the roster and the board.
 module _ (rules : Rules) (board : PlainBoard) (records : List Record) (costs : Costs) (quantities : Quantities) (cleared : 1 ≤ length board.prices)
     (ahead_is : costs.ahead ≡ day_ahead_cost board records) (net_is : costs.net ≡ net_cost rules.defaults board records) (right : Right quantities records) where
-  abbrev tests : Option ℕ
+  abbrev tests : Option Refusal
   tests =
       first_of (
-      (not (is_zero costs.ahead) && eqb quantities.ahead 0, 12)
-      ∷ (not (is_zero costs.net) && lt_z quantities.bought (pos 1), 13)
-      ∷ (not (is_zero costs.net) && eqb quantities.loads 0, 14)
+      (not (is_zero costs.ahead) && eqb quantities.ahead 0, NothingOpenDayAhead)
+      ∷ (not (is_zero costs.net) && lt_z quantities.bought (pos 1), NothingBought)
+      ∷ (not (is_zero costs.net) && eqb quantities.loads 0, NoLoad)
       ∷ []
       )
 
@@ -103,7 +104,7 @@ module _ (rules : Rules) (board : PlainBoard) (records : List Record) (costs : C
   pub not_refused : Gives {V = Unit {0}} tests (tt {0}) (Ok (tt {0})) → refused rules board records ≡ None
   not_refused answer = sym same_tests ∙ test_of_ok tests (tt {0}) (tt {0}) answer
 
-  pub refused_by : (refusal : Refusal) → Gives {V = Unit {0}} tests (tt {0}) (Err refusal) → refused rules board records ≡ Some (number_of refusal)
+  pub refused_by : (refusal : Refusal) → Gives {V = Unit {0}} tests (tt {0}) (Err refusal) → refused rules board records ≡ Some refusal
   refused_by refusal answer = sym same_tests ∙ test_of_err tests (tt {0}) refusal answer
 
   pub checked : Gives {V = Unit {0}} tests (tt {0}) (Ok (tt {0})) → Passed rules board records

@@ -1,18 +1,17 @@
 -- No sharing of a statement is out of a sharing rule's range, whatever the rule: from the limits of the roster and the laws of the rule.
-use Rattle.std.proofs.Common.{◌≡◌, ℕ, ◌-◌, ◌<◌, ◌≤◌, false, cond, List, [], ◌∷◌, map, length, ℤ, pos, ◌+ℤ◌, ◌-ℤ◌, nat_abs, ◌≤ℤ◌, sum_by, refl, ap, ◌∙◌, ⊎_elim, arith}
-use borrow.Author.Differences.{ints}
+use Rattle.std.proofs.Common.{◌≡◌, ℕ, ◌-◌, ◌<◌, ◌≤◌, false, cond, List, [], ◌∷◌, map, length, ℤ, pos, ◌+ℤ◌, ◌-ℤ◌, unsigned_abs, ◌≤ℤ◌, sum_by, refl, ap, ◌∙◌, ⊎_elim, arith}
+use Rattle.std.proofs.lemmas.Int.{ints}
 use Rattle.std.specs.List.{range_with_len}
 use Rattle.std.proofs.lemmas.List.FromFn.{length-map-range_with_len}
 use Rattle.std.proofs.lemmas.List.{length-map, map-id}
-use Rattle.std.proofs.lemmas.List.Sums.{sum_by-cons}
+use Rattle.std.proofs.lemmas.List.Sums.{get_or-le-sum_by, sum_by-cons}
 use Rattle.std.proofs.lemmas.Bool.{cases_Bool, cond-true, ltb-false}
 use Rattle.integers.specs.Totals.{total_of, size_of}
-use Rattle.integers.proofs.Totals.{one_at_most_size}
-use Rattle.roster.proofs.Totals.{below}
 use Rattle.roster.specs.Filing.{blank}
 use Rattle.roster.specs.Limits.{most_roster_total}
-use Rattle.roster.specs.Records.{Kept, arranged, arranged_above, awarded, defaulted, how_many_above}
+use Rattle.roster.specs.Records.{Kept, arranged, arranged_above, awarded, how_many_above, one_above, totals_of}
 use Rattle.roster.specs.declared.records.Record.{Record}
+use Rattle.roster.specs.declared.records.Totals.{Totals}
 use Rattle.sharing.specs.Shares.{Fair, InRange, nth}
 use Rattle.statement.specs.Amounts.{obligations, open_quantities, record_at}
 use Rattle.statement.specs.Quantities.{bought, load_of, open_day_ahead, requirement}
@@ -21,23 +20,15 @@ use Rattle.statement.proofs.Lists.{map_places, size_minus, size_pos, sumBy_plus,
 use Rattle.statement.proofs.Parts.{sizes_small}
 
 -- The five totals, each within the limit.
-pub record Small (records : List Record) : Type 0 where
-  pub loads : sum_by (λ r. r.load) records ≤ most_roster_total
-  pub obligations : sum_by (λ r. r.obligation) records ≤ most_roster_total
-  pub awards : sum_by awarded records ≤ most_roster_total
-  pub arranged : sum_by arranged records ≤ most_roster_total
-  pub defaults : sum_by defaulted records ≤ most_roster_total
+pub record Small (totals : Totals) : Type 0 where
+  pub loads : totals.loads ≤ most_roster_total
+  pub obligations : totals.obligations ≤ most_roster_total
+  pub awards : totals.awards ≤ most_roster_total
+  pub arranged : totals.arranged ≤ most_roster_total
+  pub defaults : totals.defaults ≤ most_roster_total
 
-pub small : (records : List Record) → Kept records → Small records
-small records keeps =
-    let low = below records keeps.small in
-    record {
-      loads = ltb-false most_roster_total _ low.loads;
-      obligations = ltb-false most_roster_total _ low.obligations;
-      awards = ltb-false most_roster_total _ low.awards;
-      arranged = ltb-false most_roster_total _ low.arranged;
-      defaults = ltb-false most_roster_total _ low.defaults;
-    }
+small : (totals : Totals) → one_above totals ≡ false → Small totals
+small totals none = record { loads = grind arith; obligations = grind arith; awards = grind arith; arranged = grind arith; defaults = grind arith }
 
 -- Nobody arranged more day-ahead than it owes, so all together did not either.
 pub covered : (records : List Record) → how_many_above records ≡ 0 → sum_by (λ r. r.arranged.ahead) records ≤ sum_by (λ r. r.obligation) records
@@ -51,8 +42,8 @@ covered (r ∷ records) none =
     omega (arith, rest, ltb-false r.obligation r.arranged.ahead within, sum_by-cons (λ (r : Record). r.arranged.ahead) r records, sum_by-cons (λ (r : Record). r.obligation) r records)
 
 module _ (records : List Record) (keeps : Kept records) where
-  pub limits : Small records
-  limits = small records keeps
+  pub limits : Small (totals_of records)
+  limits = small (totals_of records) keeps.small
 
   pub ahead_small : sum_by (λ r. r.arranged.ahead) records ≤ most_roster_total
   ahead_small = omega (arith, limits.obligations, covered records keeps.covered)
@@ -94,7 +85,7 @@ module _ (records : List Record) (keeps : Kept records) where
       at_least : (t : ℤ) (n : ℕ) → t ≡ pos n → (t ≡ pos 0 → ⊥) → pos 1 ≤ℤ t
       at_least t n e h = omega (arith, ints)
 
-  pub charges_in_range : (cost : ℤ) → nat_abs cost ≤ most_cost → pos 1 ≤ℤ total_of (map open_day_ahead records) → InRange cost (map open_day_ahead records)
+  pub charges_in_range : (cost : ℤ) → unsigned_abs cost ≤ most_cost → pos 1 ≤ℤ total_of (map open_day_ahead records) → InRange cost (map open_day_ahead records)
   charges_in_range cost little some =
       let long = length-map records open_day_ahead in
       record {
@@ -102,25 +93,25 @@ module _ (records : List Record) (keeps : Kept records) where
         few_members = omega (arith, long, keeps.few);
         small_total = omega (arith, little);
         small_sizes = omega (arith, open_sizes);
-        whole = some;
+        positive = some;
       }
 
-  pub requirement_small : nat_abs (requirement records) ≤ 400000
+  pub requirement_small : unsigned_abs (requirement records) ≤ 400000
   requirement_small = between (sum_by arranged records) (sum_by awarded records) (sum_by (λ r. r.failed) records) limits.arranged limits.awards failed_small
     where
-      between : (a b c : ℕ) → a ≤ 200000 → b ≤ 200000 → c ≤ 200000 → nat_abs (pos a +ℤ (pos b -ℤ pos c)) ≤ 400000
+      between : (a b c : ℕ) → a ≤ 200000 → b ≤ 200000 → c ≤ 200000 → unsigned_abs (pos a +ℤ (pos b -ℤ pos c)) ≤ 400000
       between a b c h k l = omega (arith, ints)
 
   pub loads_in_range : 1 ≤ sum_by (λ r. r.load) records → InRange (requirement records) (map load_of records)
   loads_in_range some =
       let long = length-map records load_of in
-      let whole : pos 1 ≤ℤ total_of (map load_of records) = omega (arith, ints, total_pos (λ r. r.load) records, some) in
+      let positive : pos 1 ≤ℤ total_of (map load_of records) = omega (arith, ints, total_pos (λ r. r.load) records, some) in
       record {
-        some_members = omega (arith, long, some_members load_of whole);
+        some_members = omega (arith, long, some_members load_of positive);
         few_members = omega (arith, long, keeps.few);
         small_total = omega (arith, requirement_small);
         small_sizes = omega (arith, size_pos (λ r. r.load) records, limits.loads);
-        whole = whole;
+        positive = positive;
       }
 
   module _ (shares : ℤ → List ℤ → List ℤ) (fair : (total : ℤ) (weights : List ℤ) → InRange total weights → Fair total weights (shares total weights)) (some : 1 ≤ sum_by (λ r. r.load) records) where
@@ -134,8 +125,8 @@ module _ (records : List Record) (keeps : Kept records) where
     obligations_sizes =
         omega (arith, sizes_small (λ r. r.load) records (requirement records) (obligations shares records) some obligations_fair, requirement_small, keeps.few)
 
-    pub obligation_small : (k : ℕ) → k < length records → nat_abs (nth (obligations shares records) k) ≤ 400064
-    obligation_small k inside = omega (arith, one_at_most_size (obligations shares records) k (omega (arith, inside, obligations_long)), obligations_sizes)
+    pub obligation_small : (k : ℕ) → k < length records → unsigned_abs (nth (obligations shares records) k) ≤ 400064
+    obligation_small k inside = omega (arith, get_or-le-sum_by unsigned_abs (obligations shares records) k (pos 0) (omega (arith, inside, obligations_long)), obligations_sizes)
 
     pub open_long : length (open_quantities shares records) ≡ length records
     open_long = length-map-range_with_len (λ k. nth (obligations shares records) k -ℤ pos (arranged (record_at records k))) 0 (length records)
@@ -169,14 +160,14 @@ module _ (records : List Record) (keeps : Kept records) where
           limits.arranged,
         )
 
-    pub open_in_range : (cost : ℤ) → nat_abs cost ≤ most_cost → pos 1 ≤ℤ bought records → InRange cost (open_quantities shares records)
+    pub open_in_range : (cost : ℤ) → unsigned_abs cost ≤ most_cost → pos 1 ≤ℤ bought records → InRange cost (open_quantities shares records)
     open_in_range cost little bought_some =
-        let whole : pos 1 ≤ℤ total_of (open_quantities shares records) = omega (arith, ints, open_adds_up, bought_some) in
-        let loads : pos 1 ≤ℤ total_of (map load_of records) = (loads_in_range some).whole in
+        let positive : pos 1 ≤ℤ total_of (open_quantities shares records) = omega (arith, ints, open_adds_up, bought_some) in
+        let loads : pos 1 ≤ℤ total_of (map load_of records) = (loads_in_range some).positive in
         record {
           some_members = omega (arith, open_long, some_members load_of loads);
           few_members = omega (arith, open_long, keeps.few);
           small_total = omega (arith, little);
           small_sizes = omega (arith, open_sizes_small);
-          whole = whole;
+          positive = positive;
         }

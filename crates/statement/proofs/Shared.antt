@@ -1,9 +1,10 @@
 -- The parts of a cost, one for each QSE, whether there is a cost or not.
-use Rattle.std.proofs.Common.{◌≡◌, ℕ, zero, suc, ◌*◌, ◌<◌, ◌≤◌, List, [], ◌∷◌, map, length, ℤ, pos, nat_abs, sym, refl, ap, ◌∙◌, subst, ⊎_elim, mul-le-mul, arith}
+use Rattle.std.proofs.Common.{◌≡◌, ℕ, zero, suc, ◌*◌, ◌<◌, ◌≤◌, List, [], ◌∷◌, map, length, replicate, ℤ, pos, unsigned_abs, sym, refl, ap, ◌∙◌, subst, ⊎_elim, mul-le-mul, arith}
+use Rattle.std.proofs.lemmas.Simd.{splat_is_map}
 use Rattle.std.proofs.lemmas.List.{length-map}
+use Rattle.std.proofs.lemmas.List.Sums.{get_or-le-sum_by}
 use Rattle.std.proofs.lemmas.Bool.{cases_Bool, cond-true, cond-false}
 use Rattle.integers.specs.Totals.{total_of, size_of}
-use Rattle.integers.proofs.Totals.{one_at_most_size}
 use Rattle.roster.specs.declared.records.Record.{Record}
 use Rattle.sharing.specs.Shares.{Fair, InRange, Takes, nth}
 use Rattle.statement.specs.Amounts.{is_zero, parts_of}
@@ -27,6 +28,10 @@ module _ (shares : ℤ → List ℤ → List ℤ) (cost : ℤ) (weights : List �
   pub parts_some : (cost ≡ pos 0 → ⊥) → parts_of shares cost weights records ≡ shares cost weights
   parts_some some = cond-false (is_zero cost) _ _ (is_zero_false cost some)
 
+  -- A table of zeros.
+  pub parts_zero : (n : ℕ) → n ≡ length records → cost ≡ pos 0 → replicate n (pos 0) ≡ parts_of shares cost weights records
+  parts_zero n long none = splat_is_map records n (pos 0) (sym long) ∙ sym (parts_none none)
+
   pub none_at : cost ≡ pos 0 → (k : ℕ) → nth (parts_of shares cost weights records) k ≡ pos 0
   none_at none k = ap (λ ps. nth ps k) (parts_none none) ∙ nth_none records k
 
@@ -38,15 +43,15 @@ module _ (shares : ℤ → List ℤ → List ℤ) (cost : ℤ) (weights : List �
     pub parts_add_up : total_of (parts_of shares cost weights records) ≡ cost
     parts_add_up = by_zero cost (λ none. ap total_of (parts_none none) ∙ total_none records ∙ sym none) (λ some. ap total_of (parts_some some) ∙ (fair cost weights (range some)).add_up)
 
-    pub parts_small : (most sizes : ℕ) → nat_abs cost ≤ most → size_of weights ≤ sizes → (k : ℕ) → k < length records → nat_abs (nth (parts_of shares cost weights records) k) ≤ most * sizes
+    pub parts_small : (most sizes : ℕ) → unsigned_abs cost ≤ most → size_of weights ≤ sizes → (k : ℕ) → k < length records → unsigned_abs (nth (parts_of shares cost weights records) k) ≤ most * sizes
     parts_small most sizes little small k inside =
         by_zero cost
-        (λ none. omega (arith, ap nat_abs (none_at none k)))
+        (λ none. omega (arith, ap unsigned_abs (none_at none k)))
         (λ some.
         let in_weights : k < length weights = omega (arith, long, inside) in
-        let one = part_small cost weights (shares cost weights) (range some).whole (fair cost weights (range some)) k in_weights in
-        let weight : nat_abs (nth weights k) ≤ sizes = omega (arith, one_at_most_size weights k in_weights, small) in
-        omega (arith, ap (λ ps. nat_abs (nth ps k)) (parts_some some), one, mul-le-mul little weight))
+        let one = part_small cost weights (shares cost weights) (range some).positive (fair cost weights (range some)) k in_weights in
+        let weight : unsigned_abs (nth weights k) ≤ sizes = omega (arith, get_or-le-sum_by unsigned_abs weights k (pos 0) in_weights, small) in
+        omega (arith, ap (λ ps. unsigned_abs (nth ps k)) (parts_some some), one, mul-le-mul little weight))
 
 -- A rule takes what is in its range, by whatever names it comes.
 pub takes_as : (total total' : ℤ) (weights weights' : List ℤ) (count : ℕ) → total' ≡ total → weights' ≡ weights → count ≡ length weights → InRange total weights → Takes total' weights' count

@@ -1,6 +1,6 @@
 -- The laws of a statement, from the laws of its rules.
-use Rattle.std.proofs.Common.{◌≡◌, ℕ, ◌<◌, ◌≤◌, cond, eqb, List, map, length, ℤ, pos, ◌+ℤ◌, ◌-ℤ◌, ◌*ℤ◌, neg_ℤ, nat_abs, ◌≤ℤ◌, ◌<ℤ◌, sum_by, sym, refl, ap, ◌∙◌, subst, arith}
-use borrow.Author.Differences.{ints}
+use Rattle.std.proofs.Common.{◌≡◌, ℕ, ◌<◌, ◌≤◌, cond, eqb, List, map, length, ℤ, pos, ◌+ℤ◌, ◌-ℤ◌, ◌*ℤ◌, neg_ℤ, unsigned_abs, ◌≤ℤ◌, ◌<ℤ◌, sum_by, sym, refl, ap, ◌∙◌, subst, arith}
+use Rattle.std.proofs.lemmas.Int.{ints}
 use Rattle.std.specs.List.{range_with_len}
 use Rattle.std.proofs.lemmas.List.FromFn.{get_or-map-range_with_len, length-map-range_with_len}
 use Rattle.std.proofs.lemmas.List.{length-map, map-id}
@@ -25,7 +25,7 @@ use Rattle.statement.proofs.Passed.{Passed}
 use Rattle.statement.proofs.Ranges.{charges_in_range, limits, open_adds_up, open_in_range, open_sizes, open_sizes_small, some_open}
 use Rattle.statement.proofs.Shared.{by_zero, none_at, parts_add_up, parts_long, parts_small, parts_some}
 
-close : (x y w : ℤ) → x <ℤ (y +ℤ w) → y <ℤ (x +ℤ w) → pos 1 ≤ℤ w → nat_abs (x -ℤ y) < nat_abs w
+close : (x y w : ℤ) → x <ℤ (y +ℤ w) → y <ℤ (x +ℤ w) → pos 1 ≤ℤ w → unsigned_abs (x -ℤ y) < unsigned_abs w
 close x y w h k l = omega (arith, ints)
 
 near_part : (total whole : ℤ) (weights parts : List ℤ) (k : ℕ) → k < length weights → total_of weights ≡ whole → pos 1 ≤ℤ whole → Fair total weights parts
@@ -39,10 +39,10 @@ near_part total whole weights parts k inside e some fair =
 -- What the proof of the laws has to go on.
 module _ (rules : Rules) (fair : (total : ℤ) (weights : List ℤ) → InRange total weights → Fair total weights (rules.shares total weights)) (defaults : Defaults rules.defaults)
     (board : PlainBoard) (board_keeps : boards.Kept board) (records : List Record) (keeps : Kept records) (ok : Passed rules board records) where
-  pub ahead_little : nat_abs (day_ahead_cost board records) ≤ most_cost
-  ahead_little = omega (arith, day_ahead_small board board_keeps records (limits records keeps).awards, ap nat_abs (day_ahead_is board records))
+  pub ahead_little : unsigned_abs (day_ahead_cost board records) ≤ most_cost
+  ahead_little = omega (arith, day_ahead_small board board_keeps records (limits records keeps).awards, ap unsigned_abs (day_ahead_is board records))
 
-  pub net_little : nat_abs (net_cost rules.defaults board records) ≤ most_cost
+  pub net_little : unsigned_abs (net_cost rules.defaults board records) ≤ most_cost
   net_little = net_small rules.defaults board defaults board_keeps ok.cleared records (limits records keeps).awards (limits records keeps).defaults
 
   pub charges_range : (day_ahead_cost board records ≡ pos 0 → ⊥) → InRange (day_ahead_cost board records) (map open_day_ahead records)
@@ -63,7 +63,7 @@ module _ (rules : Rules) (fair : (total : ℤ) (weights : List ℤ) → InRange 
   pub charges_long : length (charges rules board records) ≡ length records
   charges_long = parts_long rules.shares (day_ahead_cost board records) (map open_day_ahead records) records (length-map records open_day_ahead) charges_range fair
 
-  pub charge_bound : (k : ℕ) → k < length records → nat_abs (nth (charges rules board records) k) ≤ 8000000000000000
+  pub charge_bound : (k : ℕ) → k < length records → unsigned_abs (nth (charges rules board records) k) ≤ 8000000000000000
   charge_bound k inside =
       omega (
         arith,
@@ -74,10 +74,10 @@ module _ (rules : Rules) (fair : (total : ℤ) (weights : List ℤ) → InRange 
   pub shares_long : length (cost_shares rules board records) ≡ length records
   shares_long = parts_long rules.shares (net_cost rules.defaults board records) (open_quantities rules.shares records) records open_count shares_range fair
 
-  pub share_bound : (k : ℕ) → k < length records → nat_abs (nth (cost_shares rules board records) k) ≤ 20000000000000000
+  pub share_bound : (k : ℕ) → k < length records → unsigned_abs (nth (cost_shares rules board records) k) ≤ 20000000000000000
   share_bound k inside =
       by_zero (net_cost rules.defaults board records)
-      (λ none. omega (arith, ap nat_abs (none_at rules.shares (net_cost rules.defaults board records) (open_quantities rules.shares records) records none k)))
+      (λ none. omega (arith, ap unsigned_abs (none_at rules.shares (net_cost rules.defaults board records) (open_quantities rules.shares records) records none k)))
       (λ cost.
       omega (
         arith,

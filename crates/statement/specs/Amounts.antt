@@ -1,7 +1,9 @@
 -- The six amounts of a statement, in cents, negative where a QSE is paid, and when a statement is refused.
-use Rattle.std.specs.Prelude.{ℕ, ◌-◌, Bool, cond, not, ◌&&◌, List, [], ◌∷◌, map, length, ℤ, pos, ◌+ℤ◌, ◌-ℤ◌, neg_ℤ, sum_by, Option, ◌==◌, int_lt, slice_index, slice_index_or, unsigned_abs}
+use Rattle.std.specs.Prelude.{ℕ, ◌-◌, Bool, if◌then◌else◌, not, ◌&&◌, List, [], ◌∷◌, map, length, ℤ, pos, ◌+ℤ◌, ◌-ℤ◌, neg_ℤ, sum_by, Option, ◌==◌, int_lt, slice_index, slice_index_or, unsigned_abs}
 use Rattle.std.specs.List.{range_with_len}
 use Rattle.integers.specs.Totals.{total_of}
+use Rattle.refusals.specs.declared.Refusal.{Refusal}
+use Rattle.refusals.specs.declared.Refusal.TheVariants.{DayAheadNotCleared, NoLoad, NothingBought, NothingOpenDayAhead}
 use Rattle.refusals.specs.Refused.{first_of}
 use Rattle.pricing.specs.Boards.{PlainBoard}
 use Rattle.pricing.specs.Cents.{cents_of}
@@ -48,7 +50,7 @@ is_zero cents = unsigned_abs cents == 0
 
 -- One part of a cost for each QSE: the parts by a sharing rule, and all 0 where the cost is 0.
 abbrev pub parts_of : (ℤ → List ℤ → List ℤ) → ℤ → List ℤ → List Record → List ℤ
-parts_of shares cost weights records = cond (is_zero cost) (map (λ _. pos 0) records) (shares cost weights)
+parts_of shares cost weights records = if is_zero cost then map (λ _. pos 0) records else shares cost weights
 
 module _ (board : PlainBoard) where
   -- 1. Day-ahead award: minus the cents of market 0's price and the award there.
@@ -112,12 +114,12 @@ module _ (rules : Rules) (board : PlainBoard) (records : List Record) where
 
   -- Refused: market 0 has not cleared; or there is a day-ahead cost and no open day-ahead quantity; or there is a net cost and nothing is bought, or there
   -- is no load.
-  abbrev pub refused : Option ℕ
+  abbrev pub refused : Option Refusal
   refused =
       first_of (
-      ((length board.prices == 0), 10)
-      ∷ (not (is_zero (day_ahead_cost board records)) && is_zero (total_of (map open_day_ahead records)), 12)
-      ∷ (not (is_zero (net_cost rules.defaults board records)) && int_lt (bought records) (pos 1), 13)
-      ∷ (not (is_zero (net_cost rules.defaults board records)) && is_zero (total_of (map load_of records)), 14)
+      ((length board.prices == 0), DayAheadNotCleared)
+      ∷ (not (is_zero (day_ahead_cost board records)) && is_zero (total_of (map open_day_ahead records)), NothingOpenDayAhead)
+      ∷ (not (is_zero (net_cost rules.defaults board records)) && int_lt (bought records) (pos 1), NothingBought)
+      ∷ (not (is_zero (net_cost rules.defaults board records)) && is_zero (total_of (map load_of records)), NoLoad)
       ∷ []
       )

@@ -1,27 +1,42 @@
--- A statement in memory, read as plain data.
-use Rattle.std.specs.Prelude.{List, take, IfOk, Ok, Err, Result}
+-- A statement in memory, read as its rows, and what working it out promises.
+use Rattle.std.specs.Prelude.{◌≡◌, ◌-◌, ◌≤◌, List, ◌++◌, length, take, drop, replicate, IfOk, Result}
+use Rattle.std.proofs.Common.{arith}
+use Rattle.std.proofs.lemmas.List.{take-append-drop, length-take-le}
 use Rattle.pricing.specs.Boards.{PlainBoard}
 use Rattle.refusals.specs.Refused.{Gives}
 use Rattle.refusals.specs.declared.Refusal.{Refusal}
+use Rattle.roster.specs.Limits.{most_enrolled}
 use Rattle.roster.specs.declared.records.Record.{Record}
 use Rattle.statement.specs.Amounts.{Rules, refused, statement}
-use Rattle.statement.specs.Laws.{Lawful}
+use Rattle.statement.specs.Laws.{Lawful, blank_row}
 use Rattle.statement.specs.declared.amounts.Row.{Row}
-use Rattle.statement.specs.declared.statement.Statement.{Statement}
+use Rattle.statement.specs.declared.statement.Statement.TheInside.{Inside}
 
--- The rows of a statement.
-abbrev pub rows_of : Statement → List Row
-rows_of statement = take statement.count statement.rows
+-- The rows that stand are those before the count.
+abbrev pub plain : Inside → List Row
+plain statement = take statement.count statement.rows
 
--- An answer, with the statement's rows.
-abbrev pub rows_answered : Result Statement Refusal → Result (List Row) Refusal
-rows_answered (Ok statement) = Ok (rows_of statement)
-rows_answered (Err refusal) = Err refusal
+-- What holds of a statement in memory: it is not too long, and past its rows all are blank.
+pub record Sound (statement : Inside) : Type 0 where
+  pub full : length statement.rows ≡ most_enrolled
+  pub few : statement.count ≤ most_enrolled
+  pub rest : drop statement.count statement.rows ≡ replicate (most_enrolled - statement.count) blank_row
 
--- How working a statement out answers: refused, it shows the number; else the statement's rows are those defined.
-abbrev pub Works : Rules → PlainBoard → List Record → Result Statement Refusal → Type 0
-Works rules board records answer = Gives (refused rules board records) (statement rules board records) (rows_answered answer)
+-- The statement in memory that rows are read from.
+abbrev pub in_memory : List Row → Inside
+in_memory rows = record { rows = rows ++ replicate (most_enrolled - length rows) blank_row; count = length rows }
+
+-- Nothing of the statement in memory is lost.
+pub in_memory_of_plain : (statement : Inside) → Sound statement → in_memory (plain statement) ≡ statement
+in_memory_of_plain statement sound =
+    let count : length (plain statement) ≡ statement.count = length-take-le statement.count statement.rows (omega (arith, sound.full, sound.few)) in
+    let rows : plain statement ++ replicate (most_enrolled - length (plain statement)) blank_row ≡ statement.rows = rw count (rw (← sound.rest) (take-append-drop statement.count statement.rows)) in
+    (λ i. record { rows = rows i; count = count i })
+
+-- How working a statement out answers: refused, it shows why; else the statement's rows are those defined.
+abbrev pub Works : Rules → PlainBoard → List Record → Result (List Row) Refusal → Type 0
+Works rules board records answer = Gives (refused rules board records) (statement rules board records) answer
 
 -- And the laws that hold of the rows answered.
-abbrev pub Keeps : Rules → PlainBoard → List Record → Result Statement Refusal → Type 0
-Keeps rules board records answer = IfOk answer (λ worked. Lawful rules board records (rows_of worked))
+abbrev pub Keeps : Rules → PlainBoard → List Record → Result (List Row) Refusal → Type 0
+Keeps rules board records answer = IfOk answer (λ rows. Lawful rules board records rows)

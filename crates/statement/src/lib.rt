@@ -7,6 +7,7 @@
 
 pub mod amounts;
 mod costs;
+mod hour;
 mod own;
 mod shares;
 pub mod statement;

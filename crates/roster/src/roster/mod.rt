@@ -1,24 +1,32 @@
-ghost use Rattle.std.specs.Prelude.{◌≡◌, ℕ, ◌≤◌, false, length, take};
-ghost use Rattle.roster.specs.Limits.{most_enrolled};
-ghost use Rattle.roster.specs.Records.{one_above, enrolments, how_many_above, totals_of};
-
 use crate::limits::MOST_ENROLLED;
 use crate::records::{Record, Totals};
+use std::marker::Model;
 
 pub mod filing;
 pub mod reading;
 
 // The records of the enrolled QSEs in the order of enrolment, and their totals.
+// A table and a count: the memory is fixed and on no heap, and a roster is Copy.
 #[derive(Clone, Copy)]
 pub struct Roster {
     records: [Record; MOST_ENROLLED],
     count: usize,
     totals: Totals,
-    ghost full: { length records ≡ most_enrolled },
-    ghost few: { count ≤ most_enrolled },
-    ghost right: { totals ≡ totals_of (take count records) },
-    ghost small: { one_above totals ≡ false },
-    ghost covered: { how_many_above (take count records) ≡ 0 },
-    ghost distinct: { (qse : ℕ) → enrolments qse (take count records) ≤ 1 },
-    ghost numbered: { enrolments 0 (take count records) ≡ 0 },
+}
+
+impl Model for Roster {
+    ghost use Rattle.std.specs.Prelude.{List};
+    ghost use Rattle.roster.specs.declared.records.Record.{Record};
+
+    ghost Value = { List Record };
+
+    ghost use Rattle.roster.specs.Views.{plain, in_memory, Sound, in_memory_of_plain};
+
+    ghost view = { plain };
+
+    ghost invariant = { Sound };
+
+    ghost inverse = { in_memory };
+
+    ghost inverse_ok = { in_memory_of_plain };
 }

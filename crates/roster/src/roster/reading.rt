@@ -1,5 +1,4 @@
 ghost use Rattle.roster.specs.Records.{Kept, totals_of};
-ghost use Rattle.roster.specs.Views.{records_of};
 ghost use Rattle.std.specs.Prelude.{◌≡◌};
 
 use crate::records::{Record, Totals};
@@ -8,14 +7,14 @@ use crate::roster::Roster;
 impl Roster {
     // The records of the enrolled QSEs, in the order of enrolment.
     pub fn records(&self) -> &[Record]
-        ensures value { result.now ≡ records_of self.now }
+        ensures value { result.now ≡ self.now }
         ensures kept { Kept result.now }
     {
         &self.records[..self.count]
     }
 
     pub fn totals(&self) -> Totals
-        ensures { result ≡ totals_of (records_of self.now) }
+        ensures { result ≡ totals_of self.now }
     {
         self.totals
     }

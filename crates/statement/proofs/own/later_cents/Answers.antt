@@ -1,33 +1,55 @@
-use Rattle.std.proofs.Common.{◌≡◌, ℕ, ◌+◌, ◌-◌, ◌<◌, ◌≤◌, length, get_or, sum_by, ap, ◌∙◌, arith, rules}
-use Rattle.std.specs.List.{range_with_len}
+use Rattle.std.proofs.Common.{◌≡◌, ℕ, ◌-◌, ◌<◌, ◌≤◌, List, length, get_or, drop, sum, sum_by, sym, ap, ◌∙◌, arith, rules, tests}
+use Rattle.std.proofs.lemmas.Iterator.{YieldsList-from_map, YieldsList-from_slice, YieldsList-from_zip}
+use Rattle.std.proofs.lemmas.Iterator.Adapters.{YieldsList-from_skip}
+use Rattle.std.proofs.lemmas.Iterator.Consumers.{YieldsList-at, fits_by_from_yields_list, sum_by_from_yields_List}
+use Rattle.std.proofs.lemmas.List.Elements.{All-from_get_or}
+use Rattle.std.proofs.lemmas.List.FromFn.{length-range_with_len}
+use Rattle.std.proofs.lemmas.List.Sums.{sum-map, sum_by-le}
+use Rattle.std.proofs.lemmas.Slice.Zip.{get_or-zip, length-zip}
+use Rattle.std.specs.List.{range_with_len, zip}
 use Rattle.pricing.specs.Cents.{cents_of}
 use Rattle.statement.proofs.Bounds.{cents_fit}
-use Rattle.statement.proofs.Lists.{sumBy_counting_more}
+use Rattle.statement.proofs.Lists.{map-drop}
 use Rattle.statement.proofs.own.later_cents.Goals as goal
 
-back : (m : ℕ) → 1 ≤ m → m - 1 + 1 ≡ m + 1 - 1
-back m h = omega arith
+abbrev pair_cents : ℕ × ℕ → ℕ
+pair_cents pair = cents_of pair.0 pair.1
 
-pub overflow_add-sum : goal.overflow_add-sum
-overflow_add-sum c =
-    let market = c.loop-market.market in
-    let price : get_or c.args.prices.now market 0 < 4294967296 = search rules in
-    let award : get_or c.args.awards.now market 0 < 4294967296 = search rules in
-    omega (arith, c.cents-sum.ensures.value, cents_fit (get_or c.args.prices.now market 0) (get_or c.args.awards.now market 0) price award)
+module _ (prices awards : List ℕ) (fewer : length prices ≤ length awards) where
+  abbrev market_cents : ℕ → ℕ
+  market_cents market = cents_of (get_or prices market 0) (get_or awards market 0)
 
-pub loop-market-preserved : goal.loop-market-preserved
-loop-market-preserved c =
-    let market = c.loop-market.market in
-    let f : ℕ → ℕ = λ market. cents_of (get_or c.args.prices.now market 0) (get_or c.args.awards.now market 0) in
-    let price : get_or c.args.prices.now market 0 < 4294967296 = search rules in
-    let award : get_or c.args.awards.now market 0 < 4294967296 = search rules in
-    let fits = cents_fit (get_or c.args.prices.now market 0) (get_or c.args.awards.now market 0) price award in
-    let more = sumBy_counting_more f 1 (market - 1) market (omega arith) in
-    let next : sum_by f (range_with_len 1 (market - 1 + 1)) ≡ sum_by f (range_with_len 1 (market + 1 - 1)) = ap (λ n. sum_by f (range_with_len 1 n)) (back market (omega arith)) in
-    (omega (arith, c.cents-sum.ensures.value, more, next), omega (arith, c.cents-sum.ensures.value, fits), omega arith)
+  -- The cents of the pairs after the first are those of the markets after market 0.
+  later_pairs : sum_by pair_cents (drop 1 (zip prices awards)) ≡ sum_by market_cents (range_with_len 1 (length prices - 1))
+  later_pairs =
+      let pairs = zip prices awards in
+      let long : length pairs ≡ length prices = omega (arith, length-zip prices awards) in
+      let each = map-drop pair_cents market_cents pairs (0, 0) 1 (length prices - 1) (omega (arith, long)) (λ k inside. ap pair_cents (get_or-zip prices awards k (0, 0) (omega (arith, inside, long)) (omega (arith, inside, long)))) in
+      sym (sum-map pair_cents (drop 1 pairs)) ∙ ap sum each ∙ sum-map market_cents (range_with_len 1 (length prices - 1))
+
+  later_fits : ((k : ℕ) → get_or prices k 0 < 4294967296) → ((k : ℕ) → get_or awards k 0 < 4294967296) → length prices ≤ 8
+      → sum_by pair_cents (drop 1 (zip prices awards)) < 18446744073709551616
+  later_fits low few short =
+      let places = range_with_len 1 (length prices - 1) in
+      let each = All-from_get_or (λ market. market_cents market ≤ 1844674407370955162) places 0 (λ k inside. cents_fit _ _ (low (get_or places k 0)) (few (get_or places k 0))) in
+      omega (arith, later_pairs, sum_by-le market_cents 1844674407370955162 places each, length-range_with_len 1 (length prices - 1))
+
+pub sum-requires-clause-fits : goal.sum-requires-clause-fits
+sum-requires-clause-fits c =
+    let prices = c.args.prices.now in
+    let awards = c.args.awards.now in
+    fits_by_from_yields_list pair_cents (drop 1 (zip prices awards)) c.map.result _
+    (YieldsList-from_map _ pair_cents
+    (YieldsList-at c.map.ensures.source (YieldsList-from_skip 1 (YieldsList-at c.skip.ensures.source (YieldsList-from_zip (YieldsList-from_slice prices cc) (YieldsList-from_slice awards cc))) (cc)))
+    c.map.ensures.closure (λ x r q k. search (rules, tests)))
+    (later_fits prices awards (omega arith) (λ k. search rules) (λ k. search rules) c.requires.few)
 
 pub returns : goal.returns
 returns c =
-    let f : ℕ → ℕ = λ market. cents_of (get_or c.args.prices.now market 0) (get_or c.args.awards.now market 0) in
-    let end : c.loop-market.market - 1 ≡ length c.args.prices.now - 1 = omega arith in
-    c.loop-market.invariant.0 ∙ ap (λ n. sum_by f (range_with_len 1 n)) end
+    let prices = c.args.prices.now in
+    let awards = c.args.awards.now in
+    sum_by_from_yields_List pair_cents (drop 1 (zip prices awards)) c.map.result _ c.sum.ensures.ran
+    (YieldsList-from_map _ pair_cents
+    (YieldsList-at c.map.ensures.source (YieldsList-from_skip 1 (YieldsList-at c.skip.ensures.source (YieldsList-from_zip (YieldsList-from_slice prices cc) (YieldsList-from_slice awards cc))) (cc)))
+    c.map.ensures.closure (λ x r q k. search (rules, tests)))
+    ∙ later_pairs prices awards (omega arith)

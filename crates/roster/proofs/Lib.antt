@@ -1,5 +1,0 @@
-mod Invariants
-pub mod Totals
-mod Numbers
-mod Changes
-mod Answered
