@@ -115,7 +115,7 @@ Arranges before qse side tenths answer after = Changes (arranging_refused before
 
 -- A record with another failed quantity by kind 0, and with another infeasible quantity by kind 1.
 abbrev pub with_failed : ℕ → ℕ → Record → Record
-with_failed kind tenths r = if kind == 0 then record r { failed = tenths } else record r { infeasible = tenths }
+with_failed kind tenths r = record r { failed = if kind == 0 then tenths else r.failed; infeasible = if kind == 0 then r.infeasible else tenths }
 
 -- Failing: a QSE's failed or infeasible quantity is replaced.
 abbrev pub failing : List Record → ℕ → ℕ → ℕ → List Record

@@ -1,11 +1,8 @@
 // What is filed of one QSE, and what is added up over all of them.
-ghost use Rattle.std.specs.Prelude.{◌≡◌, ◌+◌, ◌-◌, ◌*◌, ◌≤◌, [], ◌∷◌, sum, nat_lt};
-ghost use Rattle.pricing.specs.Limits.{most_markets};
-ghost use Rattle.refusals.specs.Refused.{Gives, first_of};
+ghost use Rattle.std.specs.Prelude.{◌≡◌, ◌+◌, ◌-◌, ◌≤◌};
 ghost use Rattle.roster.specs.Filing.{newcomer, with_arranged, with_failed};
-ghost use Rattle.roster.specs.Limits.{most_roster_total};
-ghost use Rattle.roster.specs.Records.{one_above, arranged, awarded, defaulted};
-ghost use Rattle.roster.specs.Working.{PartOf, number_of_kind, number_of_side, totals_with};
+ghost use Rattle.roster.specs.Records.{above, one_above, arranged, awarded, defaulted};
+ghost use Rattle.roster.specs.Working.{GivesUnless, PartOf, number_of_kind, number_of_side, totals_with};
 
 use crate::kind::Kind;
 use crate::limits::MOST_ROSTER_TOTAL;
@@ -47,14 +44,6 @@ pub struct Totals {
     pub defaults: u32,
 }
 
-// What some awards come to together.
-fn total_of(awards: &[u32; MOST_MARKETS]) -> u64
-    ensures value { result ≡ sum awards.now }
-    ensures small { result ≤ most_markets * 4294967296 }
-{
-    awards.iter().map(|award| u64::from(*award)).sum()
-}
-
 impl Record {
     // A QSE of which nothing is filed yet but its load and its obligation.
     pub(crate) fn newcomer(qse: u16, load: u32, obligation: u32) -> Record
@@ -75,12 +64,17 @@ impl Record {
     pub(crate) fn with_arranged(self, side: Side, tenths: u32) -> Record
         ensures { result ≡ with_arranged (number_of_side side) tenths self }
     {
-        let mut new = self;
-        match side {
-            Side::DayAhead => new.arranged.ahead = tenths,
-            Side::Later => new.arranged.later = tenths,
-        }
-        new
+        let arranged = match side {
+            Side::DayAhead => Arranged {
+                ahead: tenths,
+                ..self.arranged
+            },
+            Side::Later => Arranged {
+                later: tenths,
+                ..self.arranged
+            },
+        };
+        Record { arranged, ..self }
     }
 
     // With another failed or infeasible quantity.
@@ -101,10 +95,9 @@ impl Record {
 
     // What it is awarded in all markets together.
     fn awarded(&self) -> u64
-        ensures value { result ≡ awarded self.now }
-        ensures small { result ≤ most_markets * 4294967296 }
+        ensures { result ≡ awarded self.now }
     {
-        total_of(&self.awards)
+        self.awards.iter().map(|award| u64::from(*award)).sum()
     }
 
     // What it arranged on both sides together.
@@ -124,11 +117,10 @@ impl Record {
 
 // A total with one number in the place of another.
 fn replaced(total: u32, old: u64, new: u64) -> Result<u32, Refusal>
-    requires part { old ≤ total }
-    requires small { new ≤ most_markets * 4294967296 }
-    ensures { Gives (first_of ((nat_lt most_roster_total (total - old + new), Refusal.QuantityAboveLimit) ∷ [])) (total - old + new) result }
+    requires { old ≤ total }
+    ensures { GivesUnless (above (total - old + new)) (total - old + new) result }
 {
-    let sum = u64::from(total) - old + new;
+    let sum = (u64::from(total) - old).saturating_add(new);
     if sum > MOST_ROSTER_TOTAL {
         return Err(Refusal::QuantityAboveLimit);
     }
@@ -148,7 +140,7 @@ impl Totals {
     // The totals with one record in the place of another, each tried against the limit.
     pub(crate) fn with(self, old: &Record, new: &Record) -> Result<Totals, Refusal>
         requires { PartOf self old.now }
-        ensures { Gives (first_of ((one_above (totals_with self old.now new.now), Refusal.QuantityAboveLimit) ∷ [])) (totals_with self old.now new.now) result }
+        ensures { let totals = totals_with self old.now new.now in GivesUnless (one_above totals) totals result }
     {
         Ok(Totals {
             loads: replaced(self.loads, u64::from(old.load), u64::from(new.load))?,

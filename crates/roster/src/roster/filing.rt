@@ -1,6 +1,7 @@
-ghost use Rattle.std.specs.Prelude.{◌≡◌, ◌<◌, [], length, MatchResult, slice_index_or};
+ghost use Rattle.std.specs.Prelude.{◌≡◌, ◌<◌, [], IfErr, IfOk, length, slice_index_or};
 ghost use Rattle.roster.specs.Filing.{Arranges, Awards, Enrols, Fails, Loads, blank};
-ghost use Rattle.roster.specs.Records.{enrolments};
+ghost use Rattle.roster.specs.Working.{Files, Found, Tries};
+ghost use Rattle.roster.specs.Records.{Kept, enrolments};
 
 use crate::kind::Kind;
 use crate::limits::MOST_ENROLLED;
@@ -12,7 +13,10 @@ use refusals::Refusal;
 
 // The place of the QSE with this number.
 fn place_of(records: &[Record], qse: u16) -> Result<usize, Refusal>
-    ensures { MatchResult result (λ place. (place < length records.now) × ((slice_index_or records.now place blank).qse ≡ qse)) (λ refusal. (enrolments qse records.now ≡ 0) × (refusal ≡ Refusal.WrongQse)) }
+    ensures found { IfOk result
+        (λ place. Found qse records.now place (slice_index_or records.now place blank)) }
+    ensures missing { IfErr result
+        (λ refusal. (enrolments qse records.now ≡ 0) × (refusal ≡ Refusal.WrongQse)) }
 {
     records
         .iter()
@@ -31,24 +35,35 @@ impl Roster {
         }
     }
 
-    // The record of the QSE named becomes what the change makes of it, where the roster still keeps its limits.
-    fn change<F: FnOnce(Record) -> Result<Record, Refusal>>(
-        &mut self,
-        qse: u16,
-        change: F,
-    ) -> Result<(), Refusal>
-        requires { F.IsAlwaysCallable change }
+    // Puts a record in the place of another, where the roster still keeps its limits.
+    fn file(&mut self, place: usize, new: Record) -> Result<(), Refusal>
+        requires place { place < length self.old }
+        requires same_qse { new.qse ≡ (slice_index_or self.old place blank).qse }
+        ensures { Files self.old place new result self.new }
     {
-        let place = place_of(self.records(), qse)?;
-        let old = self.records[place];
-        let new = change(old)?;
-        let totals = self.totals.with(&old, &new)?;
+        let totals = self.totals.with(&self.records[place], &new)?;
         if new.arranged.ahead > new.obligation {
             return Err(Refusal::ArrangedAboveObligation);
         }
         self.records[place] = new;
         self.totals = totals;
         Ok(())
+    }
+
+    // The record of the QSE named becomes what the change makes of it, where the roster still keeps its limits.
+    fn change<F: FnOnce(Record) -> Result<Record, Refusal>>(
+        &mut self,
+        qse: u16,
+        change: F,
+    ) -> Result<(), Refusal>
+        requires callable { F.IsAlwaysCallable change }
+        requires same_qse { (old new : Record) → F.post change old (Ok new) → new.qse ≡ old.qse }
+        ensures tried { Tries (F.post change) qse self.old result self.new }
+        ensures kept { Kept self.old }
+    {
+        let place = place_of(self.records(), qse)?;
+        let new = change(self.records[place])?;
+        self.file(place, new)
     }
 
     // A QSE comes after all others, with a load and an obligation.

@@ -1,0 +1,4 @@
+mod Numbers
+pub mod Totals
+mod Invariants
+mod Answered

@@ -1,0 +1,9 @@
+use Rattle.std.proofs.Common.{◌^◌, arith, rules}
+use Rattle.std.proofs.lemmas.Iterator.{YieldsList-from_slice}
+use Rattle.std.proofs.lemmas.Iterator.Adapters.{at_most_from_yields_List, fits_from_length}
+use Rattle.pricing.specs.Limits.{most_markets}
+use Rattle.roster.proofs.records.Record.awarded.Goals as goal
+
+pub sum-requires-clause-fits : goal.sum-requires-clause-fits
+sum-requires-clause-fits c =
+    fits_from_length _ _ most_markets (2 ^ 64) (at_most_from_yields_List (YieldsList-from_slice c.args.self.now.awards cc) (omega arith)) c.map.ensures.closure (omega arith) (λ x r q k. search rules)
