@@ -3,19 +3,27 @@ use pricing::board::interval::Interval;
 use refusals::Refusal;
 use std::test::Fail;
 
+// Files the four intervals of the hour.
+pub(crate) fn file_intervals(board: &mut Board, intervals: [Interval; 4]) -> Result<(), Refusal> {
+    for (which, interval) in intervals.into_iter().enumerate() {
+        board.interval(which, interval)?;
+    }
+    Ok(())
+}
+
+// An interval whose two prices add up to this sum.
+fn halves(sum: u32) -> Interval {
+    let online = sum / 2;
+    Interval {
+        online,
+        reliability: sum - online,
+    }
+}
+
 // A board with four intervals whose two prices add up to these sums.
 fn filed(sums: [u32; 4]) -> Result<Board, Refusal> {
     let mut board = Board::new();
-    for which in 0..4 {
-        let online = sums[which] / 2;
-        board.interval(
-            which,
-            Interval {
-                online,
-                reliability: sums[which] - online,
-            },
-        )?;
-    }
+    file_intervals(&mut board, sums.map(halves))?;
     Ok(board)
 }
 
@@ -39,10 +47,10 @@ fn the_average_rounds_a_half_up(rt: HostRuntime) -> Result<(), Fail> {
 #[test]
 fn there_is_no_average_until_all_four_are_filed(rt: HostRuntime) -> Result<(), Fail> {
     let mut board = Board::new();
-    for which in 0..4 {
+    for which in [3, 2, 1, 0] {
         assert_eq!(rt; board.average(), None);
         board.interval(
-            3 - which,
+            which,
             Interval {
                 online: 10,
                 reliability: 6,

@@ -1,3 +1,4 @@
+use crate::boards::file_intervals;
 use defaults::{DayAhead, DefaultRule, Highest};
 use pricing::board::Board;
 use pricing::board::interval::Interval;
@@ -21,15 +22,13 @@ fn a_failure_costs_the_top_price_and_an_infeasible_quantity_the_day_ahead_price(
         let mut board = Board::new();
         board.clear(prices[0])?;
         board.clear(prices[1])?;
-        for which in 0..4 {
-            board.interval(
-                which,
-                Interval {
-                    online: 0,
-                    reliability: sum,
-                },
-            )?;
-        }
+        file_intervals(
+            &mut board,
+            [Interval {
+                online: 0,
+                reliability: sum,
+            }; 4],
+        )?;
         assert_eq!(rt; Highest::charged(&board, tenths), Ok(highest));
         assert_eq!(rt; DayAhead::charged(&board, tenths), Ok(day_ahead));
     }

@@ -44,7 +44,7 @@ fn file(board: &Board, roster: &mut Roster, filing: Filing) -> Result<(), Refusa
 // A record as its numbers: QSE, load, obligation, awards in markets 0, 1 and 2, arranged day-ahead and later, failed, infeasible.
 fn numbers(record: &Record) -> [u32; 10] {
     [
-        record.qse as u32,
+        u32::from(record.qse),
         record.load,
         record.obligation,
         record.awards[0],

@@ -1,3 +1,4 @@
+use crate::boards::file_intervals;
 use defaults::{DayAhead, Highest};
 use largest_remainder::LargestRemainder;
 use pricing::board::Board;
@@ -49,10 +50,7 @@ fn works_out<S: SharingRule>(
 
 // What the statement is refused with, none where it is worked out.
 fn refusal_of(board: &Board, roster: &Roster) -> Option<Refusal> {
-    match Statement::work_out::<Running, Highest, DayAhead>(board, roster) {
-        Ok(_) => None,
-        Err(refusal) => Some(refusal),
-    }
+    Statement::work_out::<Running, Highest, DayAhead>(board, roster).err()
 }
 
 // QSE 7 has load 60 and obligation 60, QSE 9 has 40 and 40, QSE 3 has nothing.
@@ -178,15 +176,13 @@ fn a_negative_open_quantity_is_paid(rt: HostRuntime) -> Result<(), Fail> {
     let mut board = Board::new();
     board.clear(1_000)?;
     board.clear(3_000)?;
-    for which in 0..4 {
-        board.interval(
-            which,
-            Interval {
-                online: 3_000,
-                reliability: 400,
-            },
-        )?;
-    }
+    file_intervals(
+        &mut board,
+        [Interval {
+            online: 3_000,
+            reliability: 400,
+        }; 4],
+    )?;
     let mut roster = Roster::new();
     roster.enrol(7, 60, 60)?;
     roster.enrol(9, 40, 40)?;

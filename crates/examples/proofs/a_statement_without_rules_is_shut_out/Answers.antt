@@ -1,5 +1,5 @@
 use Rattle.std.proofs.Common.{◌≡◌, pos, ap, arith}
-use borrow.Author.Differences.{ints}
+use Rattle.std.proofs.lemmas.Int.{ints}
 use Rattle.largest_remainder.specs.Largest.{floor_of, remainder_of}
 use Rattle.pricing.specs.Cents.{cents_of}
 use Rattle.running.specs.Running.{rounded}

@@ -1,5 +1,5 @@
 use Rattle.std.proofs.Common.{refl, arith, lit<}
-use borrow.Author.Differences.{ints}
+use Rattle.std.proofs.lemmas.Int.{ints}
 use Rattle.examples.proofs.unfair_parts_are_shut_out.Goals as goal
 
 pub returns : goal.returns

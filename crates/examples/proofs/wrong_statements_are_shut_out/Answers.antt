@@ -1,5 +1,5 @@
-use Rattle.std.proofs.Common.{◌≡◌, ℕ, ◌*◌, ◌<◌, ◌≤◌, List, [], ◌∷◌, ℤ, pos, ◌+ℤ◌, ◌-ℤ◌, ◌*ℤ◌, nat_abs, ◌<ℤ◌, arith, lit<}
-use borrow.Author.Differences.{ints}
+use Rattle.std.proofs.Common.{◌≡◌, ℕ, ◌*◌, ◌<◌, ◌≤◌, List, [], ◌∷◌, ℤ, pos, ◌+ℤ◌, ◌-ℤ◌, ◌*ℤ◌, unsigned_abs, ◌<ℤ◌, arith, lit<}
+use Rattle.std.proofs.lemmas.Int.{ints}
 use Rattle.pricing.specs.Cents.{cents_of}
 use Rattle.sharing.specs.Shares.{Fair, InRange, nth}
 use Rattle.examples.proofs.wrong_statements_are_shut_out.Goals as goal
@@ -11,7 +11,7 @@ whole_part tens p h k = omega (arith, ints, h, k)
 module _ (shares : ℤ → List ℤ → List ℤ) (fair : (total : ℤ) (weights : List ℤ) → InRange total weights → Fair total weights (shares total weights)) where
   range : (tens : ℕ) → tens ≤ 12 → InRange (pos (10 * tens)) (pos 60 ∷ pos 40 ∷ [])
   range tens few =
-      record { some_members = omega arith; few_members = omega arith; small_total = omega (arith, few); small_sizes = omega arith; whole = omega (arith, ints) }
+      record { some_members = omega arith; few_members = omega arith; small_total = omega (arith, few); small_sizes = omega arith; positive = omega (arith, ints) }
 
   part_of_12 : nth (shares (pos 120) (pos 60 ∷ pos 40 ∷ [])) 0 ≡ pos 72
   part_of_12 = let laws = fair (pos 120) (pos 60 ∷ pos 40 ∷ []) (range 12 (omega arith)) in whole_part 12 _ (laws.not_above 0 (lit< tt)) (laws.not_below 0 (lit< tt))
@@ -19,10 +19,10 @@ module _ (shares : ℤ → List ℤ → List ℤ) (fair : (total : ℤ) (weights
   part_of_10 : nth (shares (pos 100) (pos 60 ∷ pos 40 ∷ [])) 0 ≡ pos 60
   part_of_10 = let laws = fair (pos 100) (pos 60 ∷ pos 40 ∷ []) (range 10 (omega arith)) in whole_part 10 _ (laws.not_above 0 (lit< tt)) (laws.not_below 0 (lit< tt))
 
-too_far : (p : ℤ) → p ≡ pos 72 → nat_abs (pos 2200 *ℤ pos 100 -ℤ pos 5000 *ℤ (p -ℤ pos 20)) < 100 → ⊥
+too_far : (p : ℤ) → p ≡ pos 72 → unsigned_abs (pos 2200 *ℤ pos 100 -ℤ pos 5000 *ℤ (p -ℤ pos 20)) < 100 → ⊥
 too_far p e h = omega (arith, ints, e, h)
 
-far_from_none : (p : ℤ) → p ≡ pos 60 → nat_abs (pos 0 *ℤ pos 100 -ℤ pos 10000 *ℤ (p -ℤ pos 0)) < 100 → ⊥
+far_from_none : (p : ℤ) → p ≡ pos 60 → unsigned_abs (pos 0 *ℤ pos 100 -ℤ pos 10000 *ℤ (p -ℤ pos 0)) < 100 → ⊥
 far_from_none p e h = omega (arith, ints, e, h)
 
 pub returns : goal.returns
