@@ -10,15 +10,11 @@ ghost use Rattle.std.specs.Prelude.{◌≡◌, if◌then◌else◌, Some, None, 
 pub fn total_within(numbers: &[i64], most: u32) -> Option<i64>
     ensures { result ≡ (if nat_le (size_of numbers.now) most then Some (total_of numbers.now) else None) }
 {
-    let mut left = most as u64;
-    let mut total: i64 = 0;
+    let mut left = u64::from(most);
+    let mut total = 0;
     for number in numbers {
-        let size = number.unsigned_abs();
-        if size > left {
-            return None;
-        }
-        left -= size;
-        total += *number;
+        left = left.checked_sub(number.unsigned_abs())?;
+        total += number;
     }
     Some(total)
 }

@@ -1,1 +1,1 @@
-mod Fills
+mod RoundedDown

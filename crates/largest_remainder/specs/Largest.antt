@@ -1,6 +1,6 @@
 -- Largest remainder: each part is first rounded down, and the missing units go one each to the largest remainders, the earlier member first among
 -- equals.
-use Rattle.std.specs.Prelude.{ℕ, ◌+◌, cond, List, map, length, take, drop, ℤ, pos, ◌+ℤ◌, ◌-ℤ◌, ◌*ℤ◌, count_by, nat_le, nat_lt, slice_index, unsigned_abs}
+use Rattle.std.specs.Prelude.{ℕ, ◌+◌, if◌then◌else◌, List, map, length, take, drop, ℤ, pos, ◌+ℤ◌, ◌-ℤ◌, ◌*ℤ◌, count_by, nat_le, nat_lt, slice_index, unsigned_abs}
 use Rattle.std.specs.List.{range_with_len}
 use Rattle.std.specs.Int.{int_div_euclid, int_rem_euclid}
 use Rattle.integers.specs.Totals.{total_of}
@@ -32,9 +32,12 @@ ahead_of remainders k = count_by (nat_le (slice_index remainders k)) (take k rem
 
 -- A member gets a unit where fewer come before it than units are missing.
 abbrev pub unit_for : ℕ → List ℕ → ℕ → ℕ
-unit_for units remainders k = cond (nat_lt (ahead_of remainders k) units) 1 0
+unit_for units remainders k = if nat_lt (ahead_of remainders k) units then 1 else 0
+
+-- The parts, each with its unit where its member gets one.
+abbrev pub with_units : ℕ → List ℕ → List ℤ → List ℤ
+with_units units remainders parts = map (λ k. nth parts k +ℤ pos (unit_for units remainders k)) (range_with_len 0 (length parts))
 
 -- Each member's part rounded down, and its unit where it gets one.
 abbrev pub largest_remainder : ℤ → List ℤ → List ℤ
-largest_remainder total weights =
-    map (λ k. nth (floors total weights) k +ℤ pos (unit_for (missing_units total weights) (all_remainders total weights) k)) (range_with_len 0 (length weights))
+largest_remainder total weights = with_units (missing_units total weights) (all_remainders total weights) (floors total weights)

@@ -1,9 +1,9 @@
 -- The running rule keeps the laws of a sharing rule.
 -- Proofs and nothing to believe: an implementation can cite its laws only from specs/.
 use Rattle.std.specs.Prelude.{◌≡◌, ℕ, zero, suc, ◌+◌, ◌<◌, List, map, length, take, ℤ, pos, ◌+ℤ◌, ◌-ℤ◌, ◌*ℤ◌, ◌≤ℤ◌, ◌<ℤ◌}
-use Rattle.std.proofs.Common.{sym, ap, subst, ◌∙◌, arith}
+use Rattle.std.proofs.Common.{sym, ap, ◌∙◌, arith}
 use Rattle.std.proofs.Math.IntN.{*ℤ_comm, *ℤ-zero, zero-*ℤ}
-use borrow.Author.Differences.{ints}
+use Rattle.std.proofs.lemmas.Int.{ints}
 use Rattle.std.specs.List.{range_with_len}
 use Rattle.std.proofs.lemmas.List.FromFn.{get_or-map-range_with_len, length-map-range_with_len}
 use Rattle.std.proofs.lemmas.List.{take_all}
@@ -16,46 +16,34 @@ use Rattle.running.specs.Running.{rounded, first_parts, running}
 
 -- Rounding: less than one half away, either way, and exact at a multiple.
 module _ (W : ℤ) (positive : pos 1 ≤ℤ W) where
-  twice_positive : pos 1 ≤ℤ (pos 2 *ℤ W)
-  twice_positive = omega (arith, ints)
-
-  rounded_low : (n : ℤ) → (pos 2 *ℤ (W *ℤ rounded W n)) ≤ℤ (pos 2 *ℤ n +ℤ W)
+  rounded_near : (n : ℤ) → ((pos 2 *ℤ (W *ℤ rounded W n)) ≤ℤ (pos 2 *ℤ n +ℤ W)) × ((pos 2 *ℤ n +ℤ W) <ℤ (pos 2 *ℤ (W *ℤ rounded W n) +ℤ pos 2 *ℤ W))
   unfolding rounded
-  rounded_low n = rw mul_assoc at (floor_low (pos 2 *ℤ n +ℤ W) (pos 2 *ℤ W) twice_positive)
-
-  rounded_high : (n : ℤ) → (pos 2 *ℤ n +ℤ W) <ℤ (pos 2 *ℤ (W *ℤ rounded W n) +ℤ pos 2 *ℤ W)
-  unfolding rounded
-  rounded_high n = rw mul_assoc at (floor_high (pos 2 *ℤ n +ℤ W) (pos 2 *ℤ W) twice_positive)
+  rounded_near n =
+      let twice : pos 1 ≤ℤ (pos 2 *ℤ W) = omega (arith, ints) in
+      (rw mul_assoc at (floor_low (pos 2 *ℤ n +ℤ W) (pos 2 *ℤ W) twice), rw mul_assoc at (floor_high (pos 2 *ℤ n +ℤ W) (pos 2 *ℤ W) twice))
 
   rounded_whole : (t : ℤ) → rounded W (t *ℤ W) ≡ t
   unfolding rounded
   rounded_whole t =
-      floor_is (pos 2 *ℤ (t *ℤ W) +ℤ W) (pos 2 *ℤ W) t twice_positive
+      floor_is (pos 2 *ℤ (t *ℤ W) +ℤ W) (pos 2 *ℤ W) t (omega (arith, ints))
       (rw mul_assoc (omega (arith, ints, *ℤ_comm t W)))
       (rw mul_assoc (omega (arith, ints, *ℤ_comm t W)))
 
   -- The step from one rounded running total to the next, on both sides of the exact share.
-  step_close : (t before weight after : ℤ) → after ≡ before +ℤ weight → (((rounded W (t *ℤ after) -ℤ rounded W (t *ℤ before)) *ℤ W) <ℤ (t *ℤ weight +ℤ W)) × ((t *ℤ weight) <ℤ ((rounded W (t *ℤ after) -ℤ rounded W (t *ℤ before)) *ℤ W +ℤ W))
-  step_close t before weight after e =
+  step_close : (t before weight after step : ℤ) → after ≡ before +ℤ weight → step ≡ rounded W (t *ℤ after) -ℤ rounded W (t *ℤ before) → ((step *ℤ W) <ℤ (t *ℤ weight +ℤ W)) × ((t *ℤ weight) <ℤ (step *ℤ W +ℤ W))
+  step_close t before weight after step e f =
       let x = rounded W (t *ℤ after) in
       let y = rounded W (t *ℤ before) in
-      linear (t *ℤ after) (t *ℤ before) (t *ℤ weight) (W *ℤ x) (W *ℤ y) ((x -ℤ y) *ℤ W) (rounded_low (t *ℤ after)) (rounded_high (t *ℤ after)) (rounded_low (t *ℤ before)) (rounded_high (t *ℤ before)) (ap (λ z. t *ℤ z) e ∙ mul_add t before weight) (*ℤ_comm (x -ℤ y) W ∙ mul_sub W x y)
-    where
-      linear : (m n d x y p : ℤ) → (pos 2 *ℤ x) ≤ℤ (pos 2 *ℤ m +ℤ W) → (pos 2 *ℤ m +ℤ W) <ℤ (pos 2 *ℤ x +ℤ pos 2 *ℤ W) → (pos 2 *ℤ y) ≤ℤ (pos 2 *ℤ n +ℤ W) → (pos 2 *ℤ n +ℤ W) <ℤ (pos 2 *ℤ y +ℤ pos 2 *ℤ W) → m ≡ n +ℤ d → p ≡ x -ℤ y → (p <ℤ (d +ℤ W)) × (d <ℤ (p +ℤ W))
-      linear m n d x y p low high low' high' e f = (omega (arith, ints), omega (arith, ints))
+      let exact : t *ℤ after ≡ t *ℤ before +ℤ t *ℤ weight = ap (λ z. t *ℤ z) e ∙ mul_add t before weight in
+      let given : step *ℤ W ≡ W *ℤ x -ℤ W *ℤ y = *ℤ_comm step W ∙ ap (λ z. W *ℤ z) f ∙ mul_sub W x y in
+      (omega (arith, ints, rounded_near (t *ℤ after), rounded_near (t *ℤ before)), omega (arith, ints, rounded_near (t *ℤ after), rounded_near (t *ℤ before)))
 
 -- Steps add up to the way from the first to the last.
-steps_add_up : (reached : ℕ → ℤ) (a n : ℕ) → total_of (map (λ k. reached (k + 1) -ℤ reached k) (range_with_len a n)) ≡ reached (a + n) -ℤ reached a
-steps_add_up reached a zero = let e : a + 0 ≡ a = omega arith in none (reached (a + 0)) (reached a) (ap reached e)
-  where
-    none : (x y : ℤ) → x ≡ y → pos 0 ≡ x -ℤ y
-    none x y e = omega (arith, ints)
-steps_add_up reached a (suc n) =
-    let e : (a + 1) + n ≡ a + suc n = omega arith in
-    more (reached (a + 1)) (reached a) (reached ((a + 1) + n)) (reached (a + suc n)) _ (steps_add_up reached (a + 1) n) (ap reached e)
-  where
-    more : (x y z u s : ℤ) → s ≡ z -ℤ x → z ≡ u → (x -ℤ y) +ℤ s ≡ u -ℤ y
-    more x y z u s e f = omega (arith, ints)
+steps_add_up : (reached : ℕ → ℤ) (a n end : ℕ) → a + n ≡ end → total_of (map (λ k. reached (k + 1) -ℤ reached k) (range_with_len a n)) ≡ reached end -ℤ reached a
+steps_add_up reached a zero end e =
+    let none : a ≡ end = omega arith in
+    omega (arith, ints, ap reached none)
+steps_add_up reached a (suc n) end e = omega (arith, ints, steps_add_up reached (a + 1) n end (omega arith))
 
 -- Nobody has nothing, and everybody has the total.
 pub nobody : (total : ℤ) (weights : List ℤ) → pos 1 ≤ℤ total_of weights → first_parts total weights 0 ≡ pos 0
@@ -74,26 +62,14 @@ running_fair total weights range =
     let front : ℕ → ℤ = λ k. total_of (take k weights) in
     let more : (k : ℕ) → k < length weights → front (k + 1) ≡ front k +ℤ nth weights k = λ k h. total_more weights k (pos 0) h in
     let near : (k : ℕ) → k < length weights → ((nth (running total weights) k *ℤ W) <ℤ (total *ℤ nth weights k +ℤ W)) × ((total *ℤ nth weights k) <ℤ (nth (running total weights) k *ℤ W +ℤ W)) = λ k h.
-    subst (λ p. ((p *ℤ W) <ℤ (total *ℤ nth weights k +ℤ W)) × ((total *ℤ nth weights k) <ℤ (p *ℤ W +ℤ W))) (sym (part_is k h))
-    (step_close W range.whole total (front k) (nth weights k) (front (k + 1)) (more k h))
+    step_close W range.positive total (front k) (nth weights k) (front (k + 1)) (nth (running total weights) k) (more k h) (part_is k h)
     in
     record {
       one_each = length-map-range_with_len part 0 (length weights);
-      add_up = ends _ (reached (0 + length weights)) (reached 0) total (steps_add_up reached 0 (length weights)) (ap reached (from_none (length weights)) ∙ everybody total weights range.whole) (nobody total weights range.whole);
+      add_up = omega (arith, ints, steps_add_up reached 0 (length weights) (length weights) (omega arith), everybody total weights range.positive, nobody total weights range.positive);
       not_above = λ k h. (near k h).0;
       not_below = λ k h. (near k h).1;
       none_for_none = λ k h none.
-          part_is k h ∙ same (reached (k + 1)) (reached k) (ap (λ z. rounded W (total *ℤ z)) (stays (front (k + 1)) (front k) (nth weights k) (more k h) none));
+          let stays : front (k + 1) ≡ front k = omega (arith, ints, more k h) in
+          omega (arith, ints, part_is k h, ap (λ z. rounded W (total *ℤ z)) stays);
     }
-  where
-    from_none : (n : ℕ) → 0 + n ≡ n
-    from_none n = omega arith
-
-    ends : (s x y t : ℤ) → s ≡ x -ℤ y → x ≡ t → y ≡ pos 0 → s ≡ t
-    ends s x y t e f g = omega (arith, ints)
-
-    same : (x y : ℤ) → x ≡ y → x -ℤ y ≡ pos 0
-    same x y e = omega (arith, ints)
-
-    stays : (x y w : ℤ) → x ≡ y +ℤ w → w ≡ pos 0 → x ≡ y
-    stays x y w e f = omega (arith, ints)

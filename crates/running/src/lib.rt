@@ -4,13 +4,12 @@
 #![tactic(auto)]
 
 ghost use Rattle.std.specs.Prelude.{◌≡◌, ◌*◌, ◌≤◌, length, pos, ◌*ℤ◌, ◌≤ℤ◌, unsigned_abs};
-ghost use Rattle.integers.specs.Totals.{total_of};
 ghost use Rattle.running.specs.Running.{rounded, running};
-ghost use Rattle.sharing.specs.Shares.{InRange, most_sizes, most_total};
+ghost use Rattle.sharing.specs.Shares.{most_sizes, most_total};
 ghost use Rattle.running.specs.Laws.{running_fair};
 
 use refusals::Refusal;
-use sharing::{SharingRule, weight_sum};
+use sharing::{Division, SharingRule};
 
 pub struct Running;
 
@@ -20,46 +19,42 @@ impl SharingRule for Running {
     ghost fair = { running_fair };
 
     fn split(total: i64, weights: &[i64], parts: &mut [i64]) -> Result<(), Refusal> {
-        let whole = weight_sum(total, weights, parts.len())?;
-        write_parts(total, whole, weights, parts);
+        let division = Division::new(total, weights, parts.len())?;
+        write_parts(&division, parts);
         Ok(())
     }
 }
 
-// n / whole, rounded to the nearest, a half up.
-fn round(whole: i64, n: i64) -> i64
-    requires whole { (pos 1 ≤ℤ whole) × (unsigned_abs whole ≤ most_sizes) }
-    requires size { unsigned_abs n ≤ most_total * most_sizes }
-    ensures value { result ≡ rounded whole n }
-    ensures bound { unsigned_abs result ≤ 3 * (most_total * most_sizes) }
+// Writes each member's part: what it and all before it have together, less what all before it have.
+fn write_parts(division: &Division, parts: &mut [i64])
+    requires { length parts.old ≡ length division.now.weights.now }
+    ensures { parts.new ≡ running division.now.total division.now.weights.now }
 {
-    (2 * n + whole).div_euclid(2 * whole)
+    let mut front = 0;
+    let mut reached = 0;
+    // A zip over `iter_mut` tells a proof how many parts it leaves and not which, so the weight is read by its place.
+    for (k, part) in parts.iter_mut().enumerate() {
+        front += division.weights[k];
+        let next = first_parts(division, front);
+        *part = next - reached;
+        reached = next;
+    }
 }
 
 // What the members in front have together, where their weights add up to `front`.
-fn first_parts(total: i64, whole: i64, front: i64) -> i64
-    requires total { unsigned_abs total ≤ most_total }
-    requires whole { (pos 1 ≤ℤ whole) × (unsigned_abs whole ≤ most_sizes) }
-    requires front { unsigned_abs front ≤ most_sizes }
-    ensures value { result ≡ rounded whole (total *ℤ front) }
-    ensures bound { unsigned_abs result ≤ 3 * (most_total * most_sizes) }
+fn first_parts(division: &Division, front: i64) -> i64
+    requires { unsigned_abs front ≤ most_sizes }
+    ensures { result ≡ rounded division.now.weight_sum (division.now.total *ℤ front) }
 {
-    round(whole, total * front)
+    round(division.total * front, division.weight_sum)
 }
 
-// Writes each member's part: what it and all before it have together, less what all before it have.
-fn write_parts(total: i64, whole: i64, weights: &[i64], parts: &mut [i64])
-    requires range { InRange total weights.now }
-    requires sum { whole ≡ total_of weights.now }
-    requires long { length parts.old ≡ length weights.now }
-    ensures { parts.new ≡ running total weights.now }
+// n / divisor, rounded to the nearest, a half up.
+fn round(n: i64, divisor: i64) -> i64
+    requires number { unsigned_abs n ≤ most_total * most_sizes }
+    requires positive { pos 1 ≤ℤ divisor }
+    requires divisor { unsigned_abs divisor ≤ most_sizes }
+    ensures { result ≡ rounded divisor n }
 {
-    let mut front: i64 = 0;
-    let mut reached: i64 = 0;
-    for k in 0..weights.len() {
-        front += weights[k];
-        let next = first_parts(total, whole, front);
-        parts[k] = next - reached;
-        reached = next;
-    }
+    (2 * n + divisor).div_euclid(2 * divisor)
 }

@@ -1,30 +1,24 @@
 -- The sizes of what the rules work with, from the range.
-use Rattle.std.proofs.Common.{◌≡◌, ℕ, ◌+◌, ◌*◌, ◌<◌, ◌≤◌, List, length, take, ℤ, pos, ◌+ℤ◌, ◌*ℤ◌, nat_abs, arith, w64, SFits}
-use borrow.Author.Differences.{ints}
+use Rattle.std.proofs.Common.{ℕ, ◌*◌, ◌<◌, ◌≤◌, length, take, ℤ, pos, ◌*ℤ◌, unsigned_abs, mul-le-mul, arith, w64, FitsSigned}
+use Rattle.std.proofs.lemmas.Int.{ints, unsigned_abs-mul}
+use Rattle.std.proofs.lemmas.List.Sums.{get_or-le-sum_by}
 use Rattle.integers.specs.Totals.{total_of}
-use Rattle.integers.proofs.Products.{size_mul_le}
-use Rattle.integers.proofs.Totals.{size_take_le, total_at_most_size, one_at_most_size, total_more}
-use Rattle.sharing.specs.Shares.{InRange, nth, most_total, most_sizes}
+use Rattle.integers.proofs.Totals.{front_at_most_size}
+use Rattle.sharing.specs.Shares.{nth, most_total, most_sizes}
+use Rattle.sharing.specs.declared.Division.{Division}
 
--- The product of a total and the weights in front.
-module _ (total front : ℤ) (small_total : nat_abs total ≤ most_total) (small_front : nat_abs front ≤ most_sizes) where
-  pub product_small : nat_abs (total *ℤ front) ≤ most_total * most_sizes
-  product_small = size_mul_le total front most_total most_sizes small_total small_front
+-- The product of a total and a weight, or a sum of weights.
+module _ (total weight : ℤ) (small_total : unsigned_abs total ≤ most_total) (small_weight : unsigned_abs weight ≤ most_sizes) where
+  pub product_small : unsigned_abs (total *ℤ weight) ≤ most_total * most_sizes
+  product_small = rw unsigned_abs-mul (mul-le-mul small_total small_weight)
 
-  pub product_fits : SFits w64 (total *ℤ front)
+  pub product_fits : FitsSigned w64 (total *ℤ weight)
   product_fits = omega (arith, ints, product_small)
 
-module _ (total : ℤ) (weights : List ℤ) (range : InRange total weights) where
+module _ (division : Division) where
   -- The weights of any front add up to little enough.
-  pub front_small : (k : ℕ) → nat_abs (total_of (take k weights)) ≤ most_sizes
-  front_small k = omega (arith, total_at_most_size (take k weights), size_take_le weights k, range.small_sizes)
+  pub front_small : (k : ℕ) → unsigned_abs (total_of (take k division.weights.now)) ≤ most_sizes
+  front_small k = omega (arith, front_at_most_size division.weights.now k, division.in_range.small_sizes)
 
-  pub one_small : (k : ℕ) → k < length weights → nat_abs (nth weights k) ≤ most_sizes
-  one_small k h = omega (arith, one_at_most_size weights k h, range.small_sizes)
-
-  pub whole_small : nat_abs (total_of weights) ≤ most_sizes
-  whole_small = omega (arith, total_at_most_size weights, range.small_sizes)
-
-  -- One weight more.
-  pub next_small : (k : ℕ) (front : ℤ) → k < length weights → front ≡ total_of (take k weights) → nat_abs (front +ℤ nth weights k) ≤ most_sizes
-  next_small k front h e = rw (e, ← total_more weights k (pos 0) h) (front_small (k + 1))
+  pub one_small : (k : ℕ) → k < length division.weights.now → unsigned_abs (nth division.weights.now k) ≤ most_sizes
+  one_small k inside = omega (arith, get_or-le-sum_by unsigned_abs division.weights.now k (pos 0) inside, division.in_range.small_sizes)

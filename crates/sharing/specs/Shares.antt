@@ -2,7 +2,7 @@
 use Rattle.std.specs.Prelude.{◌≡◌, ℕ, ◌<◌, ◌≤◌, List, length, ℤ, pos, ◌+ℤ◌, ◌*ℤ◌, ◌≤ℤ◌, ◌<ℤ◌, Ok, Err, Result, slice_index_or, unsigned_abs}
 use Rattle.integers.specs.Totals.{total_of, size_of}
 use Rattle.refusals.specs.declared.Refusal.{Refusal}
-use Rattle.refusals.specs.Refused.{number_of}
+use Rattle.refusals.specs.declared.Refusal.TheVariants.{OutsideSharingRange}
 
 -- The most weights that a rule takes.
 abbrev pub most_members : ℕ
@@ -26,7 +26,7 @@ pub record InRange (total : ℤ) (weights : List ℤ) : Type 0 where
   -- nor are the weights
   pub small_sizes : size_of weights ≤ most_sizes
   -- the weight sum is at least 1
-  pub whole : pos 1 ≤ℤ total_of weights
+  pub positive : pos 1 ≤ℤ total_of weights
 
 -- What stands at place k of the parts or of the weights.
 abbrev pub nth : List ℤ → ℕ → ℤ
@@ -51,10 +51,10 @@ pub record Takes (total : ℤ) (weights : List ℤ) (part_count : ℕ) : Type 0 
 
 -- How the range check answers: the weight sum where a rule takes them, else a refusal.
 abbrev pub Checks : ℤ → List ℤ → ℕ → Result ℤ Refusal → Type 0
-Checks total weights part_count (Ok whole) = Takes total weights part_count × (whole ≡ total_of weights)
-Checks total weights part_count (Err refusal) = (Takes total weights part_count → ⊥) × (number_of refusal ≡ 19)
+Checks total weights part_count (Ok weight_sum) = Takes total weights part_count × (weight_sum ≡ total_of weights)
+Checks total weights part_count (Err refusal) = (Takes total weights part_count → ⊥) × (refusal ≡ OutsideSharingRange)
 
 -- How a split answers, and what it makes of the caller's parts: the rule's parts where it takes them; else they stay as they were.
 abbrev pub Splits : (ℤ → List ℤ → List ℤ) → ℤ → List ℤ → List ℤ → Result (Unit {0}) Refusal → List ℤ → Type 0
 Splits shares total weights before (Ok _) after = Takes total weights (length before) × (after ≡ shares total weights)
-Splits shares total weights before (Err refusal) after = (Takes total weights (length before) → ⊥) × (number_of refusal ≡ 19) × (after ≡ before)
+Splits shares total weights before (Err refusal) after = (Takes total weights (length before) → ⊥) × (refusal ≡ OutsideSharingRange) × (after ≡ before)

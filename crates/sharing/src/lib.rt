@@ -5,8 +5,10 @@
 // `weight_sum` is the range check that the rules share.
 #![tactic(auto)]
 
-ghost use Rattle.sharing.specs.Shares.{Checks, Fair, InRange, Splits};
-ghost use Rattle.std.specs.Prelude.{List, ℤ};
+ghost use Rattle.integers.specs.Totals.{total_of};
+ghost use Rattle.refusals.specs.declared.Refusal.TheVariants.{OutsideSharingRange};
+ghost use Rattle.sharing.specs.Shares.{Checks, Fair, InRange, Splits, Takes, most_sizes};
+ghost use Rattle.std.specs.Prelude.{◌≡◌, ◌↔◌, ◌≤◌, IfErr, IfOk, IsOk, List, ℤ, unsigned_abs};
 
 use integers::total_within;
 use refusals::Refusal;
@@ -34,16 +36,40 @@ pub trait SharingRule {
 pub fn weight_sum(total: i64, weights: &[i64], part_count: usize) -> Result<i64, Refusal>
     ensures { Checks total weights.now part_count result }
 {
-    let members = weights.len();
-    if members < 1
-        || members > MOST_MEMBERS
-        || members != part_count
+    if !(1..=MOST_MEMBERS).contains(&weights.len())
+        || weights.len() != part_count
         || total.unsigned_abs() > MOST_TOTAL
     {
         return Err(Refusal::OutsideSharingRange);
     }
-    match total_within(weights, MOST_SIZES) {
-        Some(whole) if whole >= 1 => Ok(whole),
-        _ => Err(Refusal::OutsideSharingRange),
+    total_within(weights, MOST_SIZES)
+        .filter(|&sum| sum >= 1)
+        .ok_or(Refusal::OutsideSharingRange)
+}
+
+// A total and weights that every rule takes, and the weight sum.
+#[derive(Clone, Copy)]
+pub struct Division<'a> {
+    pub total: i64,
+    pub weights: &'a [i64],
+    pub weight_sum: i64,
+    ghost in_range: { InRange total weights.now },
+    ghost adds_up: { weight_sum ≡ total_of weights.now },
+    ghost small_sum: { unsigned_abs weight_sum ≤ most_sizes },
+}
+
+impl<'a> Division<'a> {
+    // The division of the total by the weights, where a rule takes them and as many parts.
+    pub fn new(total: i64, weights: &'a [i64], part_count: usize) -> Result<Self, Refusal>
+        ensures ok { IsOk result ↔ Takes total weights.now part_count }
+        ensures value { IfOk result (λ division. (division.total ≡ total) × (division.weights.now ≡ weights.now)) }
+        ensures err { IfErr result (λ refusal. refusal ≡ OutsideSharingRange) }
+    {
+        let weight_sum = weight_sum(total, weights, part_count)?;
+        Ok(Division {
+            total,
+            weights,
+            weight_sum,
+        })
     }
 }

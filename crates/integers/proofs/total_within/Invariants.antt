@@ -3,4 +3,7 @@ use Rattle.integers.specs.Totals.{total_of, size_of}
 use Rattle.integers.proofs.total_within.Given as goal
 
 abbrev pub invariant-loop-number : goal.invariant-loop-number
-invariant-loop-number l = (l.left + size_of (take l.number-index l.numbers) ≡ l.most) × (l.total ≡ total_of (take l.number-index l.numbers))
+invariant-loop-number l = record {
+  left : l.left + size_of (take l.number-index l.numbers) ≡ l.most;
+  total : l.total ≡ total_of (take l.number-index l.numbers);
+}
