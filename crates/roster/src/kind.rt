@@ -3,7 +3,7 @@ ghost use Rattle.roster.specs.Working.{Names, number_of_kind};
 
 use refusals::Refusal;
 
-// The kind of a quantity that is not delivered.
+// The kind of a quantity that is not delivered. It is read like a side, and written out beside it: a form for both would be longer than either.
 #[derive(Clone, Copy, PartialEq, Eq, Debug)]
 pub(crate) enum Kind {
     Failed,

@@ -27,6 +27,7 @@ impl Costs {
         ensures ahead { result.ahead ≡ neg_ℤ (total_of (map (λ row. row.amounts.award) rows.now)) }
         ensures net { result.net ≡ neg_ℤ (total_of (map own_sum rows.now)) }
     {
+        // A loop, since the library's sum of signed numbers asks for a bound that no clause of its own gives.
         let mut ahead: i64 = 0;
         let mut net: i64 = 0;
         for row in rows {

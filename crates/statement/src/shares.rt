@@ -22,6 +22,9 @@ fn share<S: SharingRule>(total: i64, weights: &[i64], parts: &mut [i64])
     S::split(total, weights, parts).unwrap();
 }
 
+// The weights of the day-ahead charge. It has a loop of its own beside `write_loads`: a closure for the one line that differs would cost its callers a
+// proof about every record, and say no more. In the loops here the records are read by their place, since a zip over `iter_mut` tells a proof nothing
+// of what is written.
 fn write_open_day_ahead(records: &[Record], weights: &mut [i64])
     requires { length weights.old ≡ length records.now }
     ensures { weights.new ≡ map open_day_ahead records.now }
@@ -31,6 +34,7 @@ fn write_open_day_ahead(records: &[Record], weights: &mut [i64])
     }
 }
 
+// The weights of the obligations.
 fn write_loads(records: &[Record], weights: &mut [i64])
     requires { length weights.old ≡ length records.now }
     ensures { weights.new ≡ map load_of records.now }

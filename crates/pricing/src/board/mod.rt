@@ -7,6 +7,8 @@ pub mod interval;
 pub mod reading;
 
 // The prices of the markets that have cleared, in turn, and the intervals of the hour, each filed or not.
+//
+// A table with a count beside it: the library uses no heap, and a board can be copied, which the kit's vector of fixed capacity cannot.
 #[derive(Clone, Copy)]
 pub struct Board {
     prices: [u32; MOST_MARKETS],

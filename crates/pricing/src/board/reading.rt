@@ -27,6 +27,8 @@ fn highest_of(prices: &[u32]) -> u32
     prices.iter().fold(0, |top, price| top.max(*price))
 }
 
+// A caller sees a board as its plain prices and intervals, so each reader says of its answer what the board keeps; a price of a type of its own would
+// say it once, and be taken apart by every caller.
 impl Board {
     // How many markets have cleared.
     pub fn cleared(&self) -> usize

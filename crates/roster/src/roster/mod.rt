@@ -6,7 +6,8 @@ pub mod filing;
 pub mod reading;
 
 // The records of the enrolled QSEs in the order of enrolment, and their totals.
-// A table and a count: the memory is fixed and on no heap, and a roster is Copy.
+//
+// A table with a count beside it: the library uses no heap, and a roster can be copied, which the kit's vector of fixed capacity cannot.
 #[derive(Clone, Copy)]
 pub struct Roster {
     records: [Record; MOST_ENROLLED],

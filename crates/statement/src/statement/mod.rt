@@ -6,7 +6,7 @@ pub mod working;
 
 // The rows of a statement, one for each enrolled QSE.
 //
-// A table of rows with a count, as in the roster: the library has no heap, and a statement can be copied.
+// A table with a count beside it: the library uses no heap, and a statement can be copied, which the kit's vector of fixed capacity cannot.
 #[derive(Clone, Copy)]
 pub struct Statement {
     rows: [Row; MOST_ENROLLED],

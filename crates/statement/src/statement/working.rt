@@ -25,6 +25,7 @@ fn write_shared(charges: &[i64], shares: &[i64], rows: &mut [Row])
     requires share { (k : ℕ) → k < length rows.old → unsigned_abs (nth shares.now k) ≤ most_amount }
     ensures { rows.new ≡ map (λ k. with_shares (row_at rows.old k) (nth charges.now k) (nth shares.now k)) (range_with_len 0 (length rows.old)) }
 {
+    // The parts are read by their place, since a zip over `iter_mut` tells a proof nothing of what is written.
     for (k, row) in rows.iter_mut().enumerate() {
         *row = row.with_shares(charges[k], shares[k]);
     }
