@@ -1,7 +1,6 @@
 // What a QSE's own quantities come to: the first four amounts of its row.
 ghost use Rattle.std.specs.Prelude.{◌≡◌, ◌-◌, ◌<◌, ◌≤◌, map, length, pos, neg_ℤ, sum_by, slice_index};
 ghost use Rattle.defaults.specs.Charges.{Takes};
-ghost use Rattle.pricing.specs.Boards as boards;
 ghost use Rattle.pricing.specs.Cents.{cents_of};
 ghost use Rattle.pricing.specs.Limits.{most_markets};
 ghost use Rattle.statement.specs.Amounts.{default_rules, record_at, row_of};
@@ -11,7 +10,6 @@ ghost use Rattle.std.specs.List.{range_with_len};
 use crate::amounts::{Amounts, Row};
 use crate::hour::Hour;
 use defaults::DefaultRule;
-use pricing::board::Board;
 use pricing::cents::cents;
 use pricing::limits::MOST_MARKETS;
 
@@ -36,17 +34,16 @@ fn paid(cents: u64) -> i64
     -(cents as i64)
 }
 
-// What a default rule charges for a quantity that it takes, as an amount.
-fn charged<R: DefaultRule>(board: &Board, tenths: u32) -> i64
-    requires takes { Takes board.now tenths }
-    requires priced { boards.Kept board.now }
-    ensures { result ≡ pos (R.charge board.now tenths) }
-{
-    let cents = R::charged(board, tenths).unwrap();
-    cents as i64
-}
-
 impl Hour<'_> {
+    // What a default rule charges for a quantity that it takes, as an amount.
+    fn charged<R: DefaultRule>(&self, tenths: u32) -> i64
+        requires { Takes self.now.board.now tenths }
+        ensures { result ≡ pos (R.charge self.now.board.now tenths) }
+    {
+        let cents = R::charged(self.board, tenths).unwrap();
+        cents as i64
+    }
+
     // A QSE's row with its own amounts, and without its parts of the costs.
     fn own_row<F: DefaultRule, I: DefaultRule>(&self, place: usize) -> Row
         requires { place < length self.now.records.now }
@@ -59,8 +56,8 @@ impl Hour<'_> {
             amounts: Amounts {
                 award: paid(cents(board.day_ahead_price(), record.awards[0])),
                 supplemental: paid(later_cents(board.prices(), &record.awards)),
-                failure: charged::<F>(board, record.failed),
-                infeasible: charged::<I>(board, record.infeasible),
+                failure: self.charged::<F>(record.failed),
+                infeasible: self.charged::<I>(record.infeasible),
                 charge: 0,
                 adjustment: 0,
             },
