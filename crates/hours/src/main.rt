@@ -1,11 +1,11 @@
 // Settles two whole hours with the proved library: files each call by call, and prints its statement under both sharing rules.
 #![tactic(auto)]
 
-mod amounts;
+mod filing;
 mod hour;
 mod table;
 
-use crate::amounts::Stop;
+use printing::{Stop, print};
 use std::io;
 use std::io::{BufWriter, Write};
 
@@ -16,14 +16,5 @@ fn print_all<W: Write>(out: &mut W) -> Result<(), Stop> {
 
 fn main(rt: HostRuntime) -> io::Result<()> {
     let mut out = BufWriter::new(rt.alloc(), rt.stdout())?;
-    match print_all(&mut out) {
-        Ok(()) => {}
-        Err(Stop::Refused(refusal)) => {
-            let number = refusal.number();
-            writeln!(out, "refused {number}")?;
-        }
-        Err(Stop::TooLarge) => writeln!(out, "an amount is too large to print")?,
-        Err(Stop::Output(error)) => return Err(error),
-    }
-    out.flush()
+    print(&mut out, print_all)
 }

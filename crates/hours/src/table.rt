@@ -1,27 +1,103 @@
-// Columns of amounts, each set to the right.
-use crate::amounts::Stop;
+// A table of QSEs by amounts, each column set to the right.
+use printing::{Stop, sum};
+use statement::amounts::{Amounts, Row};
+use statement::statement::Statement;
+use std::fmt::Display;
 use std::io::Write;
 use text::Dollars;
 
-// The spaces that set an amount to the right of a column of 10 characters.
-fn spaces_before(cents: i64) -> &'static str {
-    match cents.unsigned_abs() {
-        0..1_000 => "    ",
-        1_000..10_000 => "   ",
-        10_000..100_000 => "  ",
-        _ => "",
+// A QSE's own amounts, and under each of two sharing rules its charge, its adjustment and all six together.
+const COLUMNS: [&str; 10] = [
+    "award",
+    "supplemental",
+    "failure",
+    "infeasible",
+    "charge",
+    "adjustment",
+    "all",
+    "charge",
+    "adjustment",
+    "all",
+];
+
+// The least width of a column.
+const WIDTH: usize = 10;
+
+// Both statements side by side, and the totals of the columns.
+pub fn write_statements<W: Write>(
+    out: &mut W,
+    running: &Statement,
+    largest: &Statement,
+) -> Result<(), Stop> {
+    write_head(out)?;
+    let mut totals = [0; 10];
+    for (row, other) in running.rows().iter().zip(largest.rows()) {
+        let cells = cells_of(row, other)?;
+        write_line(out, row.qse, cells)?;
+        totals = added(totals, cells)?;
     }
+    write_line(out, "all", totals)
 }
 
-// The second column is two characters wider than the others, as is its name.
-pub fn write_cells<W: Write>(out: &mut W, cells: [i64; 10]) -> Result<(), Stop> {
-    for k in 0..10 {
-        let gap = if k == 1 { "   " } else { " " };
-        let spaces = spaces_before(cells[k]);
-        let sign = if cells[k] < 0 { "" } else { " " };
-        let amount = Dollars { cents: cells[k] };
-        write!(out, "{gap}{spaces}{sign}{amount}")?;
+fn write_head<W: Write>(out: &mut W) -> Result<(), Stop> {
+    writeln!(
+        out,
+        "                                                            by the running rule             by largest remainder"
+    )?;
+    write!(out, "    QSE")?;
+    for name in COLUMNS {
+        write!(out, " {name:>WIDTH$}")?;
     }
     writeln!(out)?;
     Ok(())
+}
+
+fn write_line<W: Write, N: Display + Drop>(
+    out: &mut W,
+    name: N,
+    cells: [i64; 10],
+) -> Result<(), Stop> {
+    write!(out, "  {name:>5}")?;
+    for (cents, column) in cells.iter().zip(&COLUMNS) {
+        let amount = Dollars::from(*cents);
+        let width = column.len().max(WIDTH);
+        write!(out, " {amount:>width$}")?;
+    }
+    writeln!(out)?;
+    Ok(())
+}
+
+fn cells_of(row: &Row, other: &Row) -> Result<[i64; 10], Stop> {
+    let amounts = row.amounts;
+    let others = other.amounts;
+    Ok([
+        amounts.award,
+        amounts.supplemental,
+        amounts.failure,
+        amounts.infeasible,
+        amounts.charge,
+        amounts.adjustment,
+        all_of(amounts)?,
+        others.charge,
+        others.adjustment,
+        all_of(others)?,
+    ])
+}
+
+fn all_of(amounts: Amounts) -> Result<i64, Stop> {
+    sum(&[
+        amounts.award,
+        amounts.supplemental,
+        amounts.failure,
+        amounts.infeasible,
+        amounts.charge,
+        amounts.adjustment,
+    ])
+}
+
+fn added(mut totals: [i64; 10], cells: [i64; 10]) -> Result<[i64; 10], Stop> {
+    for (total, cents) in totals.iter_mut().zip(&cells) {
+        *total = total.checked_add(*cents).ok_or(Stop::TooLarge)?;
+    }
+    Ok(totals)
 }

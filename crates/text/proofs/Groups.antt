@@ -1,37 +1,10 @@
 -- Numbers in groups of three digits.
-use Rattle.std.proofs.Common.{◌≡◌, ℕ, zero, suc, ◌+◌, ◌-◌, ◌*◌, ◌/◌, ◌%◌, ◌^◌, ◌<◌, ◌≤◌, Bool, not, eqb, [], ◌∷◌, ◌++◌, length, codes, decimal, sym, ap, ◌∙◌, ⊎_elim, append_assoc, arith, lit<, length-append}
+use Rattle.std.proofs.Common.{◌≡◌, ℕ, zero, suc, ◌+◌, ◌*◌, ◌/◌, ◌%◌, ◌^◌, ◌<◌, ◌≤◌, Bool, not, eqb, [], ◌∷◌, ◌++◌, length, codes, decimal, sym, ap, ◌∙◌, ⊎_elim, append_assoc, arith, lit<, length-append}
 use Rattle.std.proofs.lemmas.Fmt.{decimal_digit, decimal_step, decimal_by_steps, decimal_nonempty, length-decimal-le}
 use Rattle.std.proofs.lemmas.List.Elements.{filter-append}
 use Rattle.std.proofs.lemmas.Bool.{cases_lt, cond-true, cond-false, lt-ltb, le-ltb, ne_eqb, not_from_false}
+use Rattle.text.proofs.Zeros.{zero_padded, three_written}
 use Rattle.text.specs.Texts.{three_digits, grouped_by, most_groups, without_commas, GroupsLoseNothing}
-
-pub one_group : (groups number : ℕ) → 0 < groups → number < 1000 → grouped_by groups number ≡ decimal number
-one_group zero number some small = absurd (omega arith)
-one_group (suc groups) number some small = cond-true _ _ _ (lt-ltb number 1000 small)
-
-pub more_groups : (groups number : ℕ) → 0 < groups → 1000 ≤ number → grouped_by groups number ≡ grouped_by (groups - 1) (number / 1000) ++ (codes "," ++ three_digits number)
-more_groups zero number some large = absurd (omega arith)
-more_groups (suc groups) number some large =
-    let e : groups ≡ suc groups - 1 = omega arith in
-    cond-false _ _ _ (le-ltb number 1000 large) ∙ ap (λ n. grouped_by n (number / 1000) ++ (codes "," ++ three_digits number)) e
-
--- The digits of a number hold no comma.
-abbrev no_comma : ℕ → Bool
-no_comma byte = not (eqb byte 44)
-
-digit_kept : (d : ℕ) → without_commas ((48 + d) ∷ []) ≡ (48 + d) ∷ []
-digit_kept d = cond-true _ _ _ (not_from_false _ (ne_eqb (48 + d) 44 (λ e. omega arith)))
-
-digits_kept : (number : ℕ) → number < 2 ^ 64 → without_commas (decimal number) ≡ decimal number
-digits_kept number fits = decimal_by_steps (λ n ds. without_commas ds ≡ ds) (λ n h. digit_kept n) (λ n ds h so_far. filter-append no_comma ds _ ∙ (λ j. so_far j ++ digit_kept (n % 10) j)) number fits
-
-three_kept : (number : ℕ) → without_commas (three_digits number) ≡ three_digits number
-three_kept number =
-    let hundreds = number / 100 % 10 in
-    let tens = number / 10 % 10 in
-    let ones = number % 10 in
-    let last : without_commas (decimal tens ++ decimal ones) ≡ decimal tens ++ decimal ones = filter-append no_comma (decimal tens) (decimal ones) ∙ (λ j. digits_kept tens (omega arith) j ++ digits_kept ones (omega arith) j) in
-    filter-append no_comma (decimal hundreds) (decimal tens ++ decimal ones) ∙ (λ j. digits_kept hundreds (omega arith) j ++ last j)
 
 three_listed : (number : ℕ) → three_digits number ≡ (48 + number / 100 % 10) ∷ (48 + number / 10 % 10) ∷ (48 + number % 10) ∷ []
 three_listed number = λ j. decimal_digit (number / 100 % 10) (omega arith) j ++ (decimal_digit (number / 10 % 10) (omega arith) j ++ decimal_digit (number % 10) (omega arith) j)
@@ -53,19 +26,68 @@ last_three number large fits =
     ∙ append_assoc front (x ∷ []) (y ∷ z ∷ [])
     ∙ sym (ap (λ ds. front ++ ds) (three_listed number))
 
+length-decimal : (number : ℕ) → 1000 ≤ number → number < 2 ^ 64 → length (decimal number) ≡ length (decimal (number / 1000)) + 3
+length-decimal number large fits = ap length (last_three number large fits) ∙ length-append (decimal (number / 1000)) (three_digits number) ∙ ap (λ ds. length (decimal (number / 1000)) + length ds) (three_listed number)
+
+one_group : (groups number : ℕ) → number < 1000 → grouped_by (suc groups) number ≡ decimal number
+unfolding grouped_by
+one_group groups number small = cond-true _ _ _ (lt-ltb number 1000 small)
+
+more_groups : (groups number : ℕ) → 1000 ≤ number → grouped_by (suc groups) number ≡ grouped_by groups (number / 1000) ++ (codes "," ++ three_digits number)
+unfolding grouped_by
+more_groups groups number large = cond-false _ _ _ (le-ltb number 1000 large)
+
+-- Room for one more group changes nothing where the number has no more.
+room_unused : (groups number : ℕ) → number < 2 ^ 64 → length (decimal number) ≤ 3 * groups → grouped_by (suc groups) number ≡ grouped_by groups number
+room_unused zero number fits few = absurd (omega (arith, decimal_nonempty number fits))
+room_unused (suc groups) number fits few =
+    ⊎_elim
+    (λ small. one_group (suc groups) number small ∙ sym (one_group groups number small))
+    (λ large.
+    let front = room_unused groups (number / 1000) (omega arith) (omega (arith, length-decimal number large fits)) in
+    more_groups (suc groups) number large
+    ∙ ap (λ ds. ds ++ (codes "," ++ three_digits number)) front
+    ∙ sym (more_groups groups number large))
+    (cases_lt number 1000)
+
+-- What is written of a number below 1000, and of any other.
+pub small_written : (number : ℕ) → number < 1000 → grouped_by most_groups number ≡ decimal number
+small_written = one_group 6
+
+pub large_written : (number : ℕ) → 1000 ≤ number → number < 2 ^ 64 → grouped_by most_groups number ≡ grouped_by most_groups (number / 1000) ++ (codes "," ++ zero_padded 3 (number % 1000))
+large_written number large fits =
+    let few = length-decimal-le 18 (number / 1000) (omega arith) (omega arith) (omega arith) in
+    more_groups 6 number large ∙ sym (λ j. room_unused 6 (number / 1000) (omega arith) few j ++ (codes "," ++ three_written number j))
+
+-- The digits of a number hold no comma.
+abbrev no_comma : ℕ → Bool
+no_comma byte = not (eqb byte 44)
+
+digit_kept : (d : ℕ) → without_commas ((48 + d) ∷ []) ≡ (48 + d) ∷ []
+digit_kept d = cond-true _ _ _ (not_from_false _ (ne_eqb (48 + d) 44 (λ e. omega arith)))
+
+digits_kept : (number : ℕ) → number < 2 ^ 64 → without_commas (decimal number) ≡ decimal number
+digits_kept number fits = decimal_by_steps (λ n ds. without_commas ds ≡ ds) (λ n h. digit_kept n) (λ n ds h so_far. filter-append no_comma ds _ ∙ (λ j. so_far j ++ digit_kept (n % 10) j)) number fits
+
+three_kept : (number : ℕ) → without_commas (three_digits number) ≡ three_digits number
+three_kept number =
+    let hundreds = number / 100 % 10 in
+    let tens = number / 10 % 10 in
+    let ones = number % 10 in
+    let last : without_commas (decimal tens ++ decimal ones) ≡ decimal tens ++ decimal ones = filter-append no_comma (decimal tens) (decimal ones) ∙ (λ j. digits_kept tens (omega arith) j ++ digits_kept ones (omega arith) j) in
+    filter-append no_comma (decimal hundreds) (decimal tens ++ decimal ones) ∙ (λ j. digits_kept hundreds (omega arith) j ++ last j)
+
 lose_nothing : (groups number : ℕ) → number < 2 ^ 64 → length (decimal number) ≤ 3 * groups → without_commas (grouped_by groups number) ≡ decimal number
 lose_nothing zero number fits few = absurd (omega (arith, decimal_nonempty number fits))
 lose_nothing (suc groups) number fits few =
     ⊎_elim
-    (λ small. ap without_commas (cond-true _ _ _ (lt-ltb number 1000 small)) ∙ digits_kept number fits)
+    (λ small. ap without_commas (one_group groups number small) ∙ digits_kept number fits)
     (λ large.
-    let parts = last_three number large fits in
-    let long : length (decimal number) ≡ length (decimal (number / 1000)) + 3 = ap length parts ∙ length-append (decimal (number / 1000)) (three_digits number) ∙ ap (λ ds. length (decimal (number / 1000)) + length ds) (three_listed number) in
-    let front = lose_nothing groups (number / 1000) (omega arith) (omega arith) in
-    ap without_commas (cond-false _ _ _ (le-ltb number 1000 large))
+    let front = lose_nothing groups (number / 1000) (omega arith) (omega (arith, length-decimal number large fits)) in
+    ap without_commas (more_groups groups number large)
     ∙ filter-append no_comma (grouped_by groups (number / 1000)) (codes "," ++ three_digits number)
     ∙ (λ j. front j ++ three_kept number j)
-    ∙ sym parts)
+    ∙ sym (last_three number large fits))
     (cases_lt number 1000)
 
 pub groups_lose_nothing : GroupsLoseNothing

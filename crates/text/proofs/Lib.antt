@@ -1,2 +1,4 @@
 mod Groups
+mod Lines
 mod Signs
+mod Zeros

@@ -1,13 +1,14 @@
 -- The text of an amount, by its sign and its size.
-use Rattle.std.proofs.Common.{◌≡◌, ℕ, true, false, ◌++◌, ℤ, pos, negsuc, nat_abs, codes, sym, ap, arith}
-use lib.Signed.{lt_z}
+use Rattle.std.proofs.Common.{◌≡◌, ℕ, ◌/◌, ◌%◌, ◌++◌, suc, ℤ, pos, negsuc, nat_abs, codes, ap, arith}
 use Rattle.std.proofs.lemmas.Bool.{le-ltb}
-use Rattle.text.specs.Texts.{size_text, dollars_text}
+use Rattle.std.specs.Fmt.{sign_text}
+use Rattle.std.specs.Int.{is_negative}
+use Rattle.text.proofs.Zeros.{zero_padded, two_written}
+use Rattle.text.specs.Texts.{grouped_by, most_groups, size_text, dollars_text}
 
-pub below_none : (z : ℤ) (size : ℕ) → lt_z z (pos 0) ≡ true → size ≡ nat_abs z → dollars_text z ≡ codes "-$" ++ size_text size
-below_none (pos n) size below e = let f = le-ltb n 0 (omega arith) in cc (f, below)
-below_none (negsuc n) size below e = ap (λ (m : ℕ). codes "-$" ++ size_text m) (sym e)
+size_written : (size : ℕ) → grouped_by most_groups (size / 100) ++ (codes "." ++ zero_padded 2 (size % 100)) ≡ size_text size
+size_written size = ap (λ cents. grouped_by most_groups (size / 100) ++ (codes "." ++ cents)) (two_written size)
 
-pub not_below : (z : ℤ) (size : ℕ) → lt_z z (pos 0) ≡ false → size ≡ nat_abs z → dollars_text z ≡ codes "$" ++ size_text size
-not_below (pos n) size not e = ap (λ (m : ℕ). codes "$" ++ size_text m) (sym e)
-not_below (negsuc n) size not e = cc (not)
+pub amount_written : (z : ℤ) → sign_text (is_negative z) ++ (codes "$" ++ (grouped_by most_groups (nat_abs z / 100) ++ (codes "." ++ zero_padded 2 (nat_abs z % 100)))) ≡ dollars_text z
+amount_written (pos cents) = rw (le-ltb cents 0 (omega arith)) (ap (λ size. codes "$" ++ size) (size_written cents))
+amount_written (negsuc cents) = ap (λ size. codes "-$" ++ size) (size_written (suc cents))

@@ -1,14 +1,14 @@
 -- What is written of an amount and of a quantity.
-use Rattle.std.specs.Prelude.{◌≡◌, ℕ, zero, suc, ◌/◌, ◌%◌, ◌^◌, ◌<◌, cond, not, List, [], ◌++◌, ℤ, pos, negsuc, codes, decimal, filter, ◌==◌, nat_lt}
+use Rattle.std.specs.Prelude.{◌≡◌, ℕ, zero, suc, ◌/◌, ◌%◌, ◌^◌, ◌<◌, if◌then◌else◌, not, List, [], ◌++◌, ℤ, pos, negsuc, codes, decimal, filter, ◌==◌, nat_lt}
 
 -- The last three digits of a number.
 abbrev pub three_digits : ℕ → List ℕ
 three_digits number = decimal (number / 100 % 10) ++ (decimal (number / 10 % 10) ++ decimal (number % 10))
 
 -- A number of at most so many groups of three digits, with a comma between them.
-abbrev pub grouped_by : ℕ → ℕ → List ℕ
+unfoldable pub grouped_by : ℕ → ℕ → List ℕ
 grouped_by zero number = []
-grouped_by (suc groups) number = cond (nat_lt number 1000) (decimal number) (grouped_by groups (number / 1000) ++ (codes "," ++ three_digits number))
+grouped_by (suc groups) number = if nat_lt number 1000 then decimal number else grouped_by groups (number / 1000) ++ (codes "," ++ three_digits number)
 
 -- The most groups that a number of 64 bits has.
 abbrev pub most_groups : ℕ

@@ -1,13 +1,15 @@
 // Money and quantities as an analyst reads them, from whole cents and whole tenths of a MW.
 //
-// `Dollars` and `Megawatts` promise the bytes that they write, for every number, and `groups_lose_nothing` that the commas leave every digit in its place.
+// `Dollars` and `Megawatts` promise the bytes that they write, for every number and under every width and precision, and `groups_lose_nothing` that the commas leave every digit in its place.
 #![tactic(auto)]
 
-ghost use Rattle.std.specs.Fmt.{WritesOnOk};
-ghost use Rattle.std.specs.Prelude.{Some};
-ghost use Rattle.text.specs.Texts.{GroupsLoseNothing, three_digits, grouped_by, most_groups, size_text, dollars_text, megawatts_text};
+ghost use Rattle.std.specs.Fmt.{DisplaysOnOk, DisplaysStyledOnOk, formatter_spec, styled_text};
+ghost use Rattle.std.specs.Option.{option_map};
+ghost use Rattle.std.specs.Prelude.{◌≡◌, pos, Some};
+ghost use Rattle.text.specs.Texts.{GroupsLoseNothing, grouped_by, most_groups, dollars_text, megawatts_text};
 
 use std::fmt;
+use std::fmt::{InlineText, Write};
 
 // An amount in cents, as dollars: -$4,235.00.
 #[derive(Clone, Copy)]
@@ -21,102 +23,94 @@ pub struct Megawatts {
     pub tenths: u32,
 }
 
-// The most groups of three digits that a number of 64 bits has.
-const MOST_GROUPS: u8 = 7;
+// An amount, in cents.
+impl From<i64> for Dollars {
+    ghost from_gives = { λ cents amount. amount.cents ≡ cents };
 
-// The last three digits of a number.
+    fn from(cents: i64) -> Dollars {
+        Dollars { cents }
+    }
+}
+
+// A price, in cents.
+impl From<u32> for Dollars {
+    ghost from_gives = { λ cents amount. amount.cents ≡ pos cents };
+
+    fn from(cents: u32) -> Dollars {
+        Dollars::from(i64::from(cents))
+    }
+}
+
+// A quantity, in tenths of a MW.
+impl From<u32> for Megawatts {
+    ghost from_gives = { λ tenths quantity. quantity.tenths ≡ tenths };
+
+    fn from(tenths: u32) -> Megawatts {
+        Megawatts { tenths }
+    }
+}
+
+// A number in groups of three digits, with a comma between them.
 #[derive(Clone, Copy)]
-struct ThreeDigits {
-    number: u64,
-}
-
-impl fmt::Display for ThreeDigits {
-    ghost output = { λ group. Some (three_digits group.number) };
-
-    fn fmt<W: fmt::Write>(&self, f: &mut fmt::Formatter<W>) -> fmt::Result {
-        let hundreds = self.number / 100 % 10;
-        let tens = self.number / 10 % 10;
-        let ones = self.number % 10;
-        write!(f, "{hundreds}{tens}{ones}")
-    }
-}
-
-// Writes a number of at most so many groups of three digits, with a comma between them.
-fn write_grouped<W: fmt::Write>(groups: u8, number: u64, f: &mut fmt::Formatter<W>) -> fmt::Result
-    ensures { WritesOnOk W.write_str_gives f.old result (grouped_by groups number) f.new }
-{
-    if groups == 0 {
-        return Ok(());
-    }
-    if number < 1000 {
-        return write!(f, "{number}");
-    }
-    write_grouped(groups - 1, number / 1000, f)?;
-    let last = ThreeDigits { number };
-    write!(f, ",{last}")
-}
-
-// A number in groups of three digits.
-#[derive(Clone, Copy)]
-struct Grouped {
-    number: u64,
-}
+struct Grouped(u64);
 
 impl fmt::Display for Grouped {
-    ghost output = { λ whole. Some (grouped_by most_groups whole.number) };
+    ghost output = { λ whole. Some (grouped_by most_groups whole.0) };
 
+    #[tactic(auto, using(std::proofs::lemmas::Grind::common_steps, crate::proofs::Groups::small_written, crate::proofs::Groups::large_written))]
     fn fmt<W: fmt::Write>(&self, f: &mut fmt::Formatter<W>) -> fmt::Result {
-        write_grouped(MOST_GROUPS, self.number, f)
+        let number = self.0;
+        if number < 1000 {
+            return write!(f, "{number}");
+        }
+        Grouped(number / 1000).fmt(f)?;
+        let last = number % 1000;
+        write!(f, ",{last:03}")
     }
 }
 
-// An amount in cents without its sign.
-#[derive(Clone, Copy)]
-struct Size {
-    cents: u64,
-}
+// The length of the longest text, that of the least amount.
+const LONGEST: usize = "-$92,233,720,368,547,758.08".len();
 
-impl fmt::Display for Size {
-    ghost output = { λ size. Some (size_text size.cents) };
-
-    fn fmt<W: fmt::Write>(&self, f: &mut fmt::Formatter<W>) -> fmt::Result {
-        let whole = Grouped {
-            number: self.cents / 100,
-        };
-        let tens = self.cents / 10 % 10;
-        let ones = self.cents % 10;
-        write!(f, "{whole}.{tens}{ones}")
-    }
+// Writes a text under the formatter's width and precision, as a `&str` is written.
+fn pad<W: fmt::Write, D: fmt::Display + Drop>(f: &mut fmt::Formatter<W>, text: D) -> fmt::Result
+    ensures writes { DisplaysOnOk W.write_str_gives f.old result (D.output text) f.new }
+    ensures styled { DisplaysStyledOnOk W.write_str_gives f.old result
+        (option_map (styled_text (formatter_spec f.old)) (D.output text)) f.new }
+{
+    let mut line = InlineText::<LONGEST>::new();
+    write!(line, "{text}")?;
+    f.pad(line.as_str())
 }
 
 impl fmt::Display for Dollars {
     ghost output = { λ amount. Some (dollars_text amount.cents) };
 
+    ghost styled_output = { λ amount spec. Some (styled_text spec (dollars_text amount.cents)) };
+
     fn fmt<W: fmt::Write>(&self, f: &mut fmt::Formatter<W>) -> fmt::Result {
-        let size = Size {
-            cents: self.cents.unsigned_abs(),
-        };
-        if self.cents < 0 {
-            write!(f, "-${size}")
-        } else {
-            write!(f, "${size}")
-        }
+        let sign = if self.cents < 0 { "-" } else { "" };
+        let size = self.cents.unsigned_abs();
+        let whole = Grouped(size / 100);
+        let cents = size % 100;
+        pad(f, format_args!("{sign}${whole}.{cents:02}"))
     }
 }
 
 impl fmt::Display for Megawatts {
     ghost output = { λ quantity. Some (megawatts_text quantity.tenths) };
 
+    ghost styled_output = { λ quantity spec. Some (styled_text spec (megawatts_text quantity.tenths)) };
+
     fn fmt<W: fmt::Write>(&self, f: &mut fmt::Formatter<W>) -> fmt::Result {
-        let whole = Grouped {
-            number: (self.tenths / 10) as u64,
-        };
+        let whole = Grouped(u64::from(self.tenths / 10));
         let tenths = self.tenths % 10;
-        write!(f, "{whole}.{tenths} MW")
+        pad(f, format_args!("{whole}.{tenths} MW"))
     }
 }
 
 // A number in groups is the number as it is written, with commas put in.
+#[tactic(auto, using(crate::proofs::Groups::groups_lose_nothing))]
 pub fn groups_lose_nothing()
     ensures { GroupsLoseNothing }
 {}

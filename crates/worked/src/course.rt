@@ -1,10 +1,11 @@
 // The course's examples, each with its inputs, its equation and its result.
-use crate::amounts::{Stop, over_hours, turned};
+use crate::amounts::over_hours;
 use defaults::{DayAhead, DefaultRule, Highest};
 use pricing::board::Board;
 use pricing::board::interval::Interval;
 use pricing::cents::cents;
 use pricing::limits::INTERVALS;
+use printing::Stop;
 use refusals::Refusal;
 use std::io::Write;
 use text::{Dollars, Megawatts};
@@ -128,15 +129,18 @@ pub fn write_examples<W: Write>(out: &mut W) -> Result<(), Stop> {
 }
 
 fn write_example<W: Write>(out: &mut W, example: Example) -> Result<(), Stop> {
-    let title = example.title;
-    let equation = example.equation;
+    let Example {
+        title,
+        equation,
+        rows,
+    } = example;
     writeln!(out, "\n{title}\n  {equation}")?;
     let mut total: i64 = 0;
-    for row in example.rows {
+    for row in rows {
         let amount = write_row(out, row)?;
         total = total.checked_add(amount).ok_or(Stop::TooLarge)?;
     }
-    let amount = Dollars { cents: total };
+    let amount = Dollars::from(total);
     writeln!(out, "  amount {amount}")?;
     Ok(())
 }
@@ -146,11 +150,9 @@ fn write_row<W: Write>(out: &mut W, row: &Row) -> Result<i64, Stop> {
         write_board(out, &board_with(prices, average)?)?;
     }
     let (price, cents) = settle(row)?;
-    let quantity = Megawatts { tenths: row.tenths };
-    let price = Dollars {
-        cents: i64::from(price),
-    };
-    let amount = Dollars { cents };
+    let quantity = Megawatts::from(row.tenths);
+    let price = Dollars::from(price);
+    let amount = Dollars::from(cents);
     let hours = row.hours;
     let unit = if hours == 1 { "hour" } else { "hours" };
     writeln!(
@@ -169,7 +171,7 @@ fn settle(row: &Row) -> Result<(u32, i64), Stop> {
         )),
         Settlement::Paid { price } => Ok((
             price,
-            turned(over_hours(cents(price, row.tenths), row.hours)?)?,
+            -over_hours(cents(price, row.tenths), row.hours)?,
         )),
         Settlement::Failed { prices, average } => {
             let board = board_with(prices, average)?;
@@ -192,9 +194,10 @@ fn settle(row: &Row) -> Result<(u32, i64), Stop> {
 // A board with these markets cleared, and an average that each interval shares.
 fn board_with(prices: &[u32], average: u32) -> Result<Board, Refusal> {
     let mut board = Board::new();
-    for price in prices {
-        board.clear(*price)?;
+    for &price in prices {
+        board.clear(price)?;
     }
+    // By index, since the call takes the number of the interval.
     for which in 0..INTERVALS {
         board.interval(
             which,
@@ -209,18 +212,12 @@ fn board_with(prices: &[u32], average: u32) -> Result<Board, Refusal> {
 
 // What a board's markets cleared at, and its average where there is one.
 pub fn write_board<W: Write>(out: &mut W, board: &Board) -> Result<(), Stop> {
-    for market in 0..board.cleared() {
-        if let Some(price) = board.price(market) {
-            let price = Dollars {
-                cents: i64::from(price),
-            };
-            writeln!(out, "  market {market} cleared at {price} per MW")?;
-        }
+    for (market, price) in board.prices().iter().enumerate() {
+        let price = Dollars::from(*price);
+        writeln!(out, "  market {market} cleared at {price} per MW")?;
     }
     if let Some(average) = board.average() {
-        let average = Dollars {
-            cents: i64::from(average),
-        };
+        let average = Dollars::from(average);
         writeln!(out, "  average real-time price {average} per MW")?;
     }
     Ok(())

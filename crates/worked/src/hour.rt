@@ -1,10 +1,11 @@
 // One hour from beginning to end: its prices, what its quantities cost, and the shares of that cost under both sharing rules.
-use crate::amounts::{Stop, over_hours, sum, three_parts};
+use crate::amounts::three_parts;
 use crate::course::write_board;
 use defaults::{DayAhead, DefaultRule};
 use largest_remainder::LargestRemainder;
 use pricing::board::Board;
 use pricing::cents::cents;
+use printing::{Stop, sum};
 use refusals::Refusal;
 use running::Running;
 use std::io::Write;
@@ -18,6 +19,25 @@ struct Costs {
     infeasible: i64,
 }
 
+impl Costs {
+    fn on(board: &Board) -> Result<Costs, Stop> {
+        let supplemental_price = board.price(1).ok_or(Refusal::NoSuchPlace)?;
+        Ok(Costs {
+            day_ahead: i64::try_from(cents(board.day_ahead_price(), DAY_AHEAD.tenths))?,
+            supplemental: i64::try_from(cents(supplemental_price, SUPPLEMENTAL.tenths))?,
+            infeasible: i64::try_from(DayAhead::charged(board, INFEASIBLE.tenths)?)?,
+        })
+    }
+
+    // What was bought costs, less what the infeasible quantity is charged.
+    fn net(self) -> Result<i64, Stop> {
+        self.day_ahead
+            .checked_add(self.supplemental)
+            .and_then(|bought| bought.checked_sub(self.infeasible))
+            .ok_or(Stop::TooLarge)
+    }
+}
+
 // The hour's quantities: bought day-ahead, bought in the supplemental market, and infeasible.
 const DAY_AHEAD: Megawatts = Megawatts { tenths: 9_900 };
 
@@ -26,26 +46,8 @@ const SUPPLEMENTAL: Megawatts = Megawatts { tenths: 100 };
 const INFEASIBLE: Megawatts = Megawatts { tenths: 100 };
 
 const BOUGHT: Megawatts = Megawatts {
-    tenths: 9_900 + 100,
+    tenths: DAY_AHEAD.tenths + SUPPLEMENTAL.tenths,
 };
-
-fn costs_on(board: &Board) -> Result<Costs, Stop> {
-    let supplemental_price = board.price(1).ok_or(Refusal::NoSuchPlace)?;
-    Ok(Costs {
-        day_ahead: over_hours(cents(board.day_ahead_price(), DAY_AHEAD.tenths), 1)?,
-        supplemental: over_hours(cents(supplemental_price, SUPPLEMENTAL.tenths), 1)?,
-        infeasible: over_hours(DayAhead::charged(board, INFEASIBLE.tenths)?, 1)?,
-    })
-}
-
-// What was bought costs, less what the infeasible quantity is charged.
-fn net_of(costs: Costs) -> Result<i64, Stop> {
-    let bought = costs
-        .day_ahead
-        .checked_add(costs.supplemental)
-        .ok_or(Stop::TooLarge)?;
-    bought.checked_sub(costs.infeasible).ok_or(Stop::TooLarge)
-}
 
 // The course's cost allocation: non-spin reserve bought day-ahead and in one supplemental market, less what an infeasible quantity is charged.
 pub fn settle<W: Write>(out: &mut W) -> Result<(), Stop> {
@@ -54,27 +56,25 @@ pub fn settle<W: Write>(out: &mut W) -> Result<(), Stop> {
         "\nOne hour from beginning to end: non-spin reserve, hour 7\n  NSCOST = NSPR * NSQ, where NSPR = NSCOSTTOT / NSQTOT"
     )?;
     let board = corrected_board(out)?;
-    let costs = costs_on(&board)?;
-    write_cost(out, DAY_AHEAD, "bought day-ahead", costs.day_ahead)?;
-    write_cost(
-        out,
-        SUPPLEMENTAL,
-        "bought in the supplemental market",
-        costs.supplemental,
-    )?;
-    write_cost(
-        out,
-        INFEASIBLE,
-        "infeasible, charged at the day-ahead price",
-        costs.infeasible,
-    )?;
-    let net = net_of(costs)?;
-    write_cost(
-        out,
-        BOUGHT,
-        "bought, net cost to share by open quantity",
-        net,
-    )?;
+    let costs = Costs::on(&board)?;
+    let net = costs.net()?;
+    for (quantity, what, cents) in [
+        (DAY_AHEAD, "bought day-ahead", costs.day_ahead),
+        (
+            SUPPLEMENTAL,
+            "bought in the supplemental market",
+            costs.supplemental,
+        ),
+        (
+            INFEASIBLE,
+            "infeasible, charged at the day-ahead price",
+            costs.infeasible,
+        ),
+        (BOUGHT, "bought, net cost to share by open quantity", net),
+    ] {
+        let cost = Dollars::from(cents);
+        writeln!(out, "  {quantity} {what}: {cost}")?;
+    }
     write_shares(out, net, [1_010, 3_333, 5_657])
 }
 
@@ -85,50 +85,27 @@ fn corrected_board<W: Write>(out: &mut W) -> Result<Board, Stop> {
     board.clear(12_000)?;
     write_board(out, &board)?;
     board.correct(0, 1_000)?;
-    let corrected = Dollars {
-        cents: i64::from(board.day_ahead_price()),
-    };
+    let corrected = Dollars::from(board.day_ahead_price());
     writeln!(out, "  market 0 corrected to {corrected} per MW")?;
     Ok(board)
 }
 
-fn write_cost<W: Write>(
-    out: &mut W,
-    quantity: Megawatts,
-    what: &str,
-    cents: i64,
-) -> Result<(), Stop> {
-    let cost = Dollars { cents };
-    writeln!(out, "  {quantity} {what}: {cost}")?;
-    Ok(())
-}
-
 // The shares of a cost under both rules, and what they add up to.
 fn write_shares<W: Write>(out: &mut W, cents: i64, open_tenths: [u32; 3]) -> Result<(), Stop> {
-    let weights = [
-        i64::from(open_tenths[0]),
-        i64::from(open_tenths[1]),
-        i64::from(open_tenths[2]),
-    ];
+    let weights = open_tenths.map(i64::from);
     let running = three_parts::<Running>(cents, weights)?;
     let largest = three_parts::<LargestRemainder>(cents, weights)?;
-    for k in 0..3 {
-        let open = Megawatts {
-            tenths: open_tenths[k],
-        };
-        let first = Dollars { cents: running[k] };
-        let second = Dollars { cents: largest[k] };
+    for ((open, first), second) in open_tenths.iter().zip(&running).zip(&largest) {
+        let open = Megawatts::from(*open);
+        let first = Dollars::from(*first);
+        let second = Dollars::from(*second);
         writeln!(
             out,
             "  {open} open: running {first}, largest remainder {second}"
         )?;
     }
-    let first = Dollars {
-        cents: sum(running)?,
-    };
-    let second = Dollars {
-        cents: sum(largest)?,
-    };
+    let first = Dollars::from(sum(&running)?);
+    let second = Dollars::from(sum(&largest)?);
     writeln!(
         out,
         "  together: running {first}, largest remainder {second}"

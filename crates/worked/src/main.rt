@@ -5,7 +5,7 @@ mod amounts;
 mod course;
 mod hour;
 
-use crate::amounts::Stop;
+use printing::{Stop, print};
 use std::io;
 use std::io::{BufWriter, Write};
 
@@ -18,14 +18,5 @@ fn print_all<W: Write>(out: &mut W) -> Result<(), Stop> {
 
 fn main(rt: HostRuntime) -> io::Result<()> {
     let mut out = BufWriter::new(rt.alloc(), rt.stdout())?;
-    match print_all(&mut out) {
-        Ok(()) => {}
-        Err(Stop::Refused(refusal)) => {
-            let number = refusal.number();
-            writeln!(out, "refused {number}")?;
-        }
-        Err(Stop::TooLarge) => writeln!(out, "an amount is too large to print")?,
-        Err(Stop::Output(error)) => return Err(error),
-    }
-    out.flush()
+    print(&mut out, print_all)
 }

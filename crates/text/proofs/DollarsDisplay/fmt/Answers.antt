@@ -1,20 +1,25 @@
-use Rattle.std.proofs.Common.{◌≡◌, true, false, pos, nat_abs, ap, ◌∙◌, w64, to_z, of_z, rules}
-use lib.Signed.{lt_z}
-use Rattle.text.proofs.Signs.{below_none, not_below}
+use Rattle.std.proofs.Common.{◌≡◌, true, false, ◌/◌, ◌%◌, ◌++◌, codes, nat_abs, ap, ◌∙◌, w64, to_z, of_z, rules}
+use Rattle.std.specs.Fmt.{sign_text, styled_decimal}
+use Rattle.std.specs.Int.{is_negative}
+use Rattle.text.proofs.Signs.{amount_written}
+use Rattle.text.specs.Texts.{grouped_by, most_groups, dollars_text}
+use Rattle.text.proofs.DollarsDisplay.fmt.Goals.{then-self-lt0, else-self-lt0}
 use Rattle.text.proofs.DollarsDisplay.fmt.Goals as goal
 
-pub returns-then-self-lt0-clause-writes : goal.returns-then-self-lt0-clause-writes
-returns-then-self-lt0-clause-writes g c =
+-- The parts that are put together are the text of the amount.
+whole : (g : _) (c : goal.After-pad g) → c.if-self-lt0.sign.now ++ (codes "$" ++ (grouped_by most_groups (c.unsigned_abs-size.result / 100) ++ (codes "." ++ styled_decimal c.laid_out.result (c.unsigned_abs-size.result % 100)))) ≡ dollars_text c.args.self.now.cents
+whole g c =
     let cents = c.args.self.now.cents in
     let same : to_z w64 (of_z w64 cents) ≡ cents = search rules in
-    let size : c.unsigned_abs.result ≡ nat_abs cents = c.unsigned_abs.ensures.value ∙ ap nat_abs same in
-    let below : lt_z cents (pos 0) ≡ true = rw same at c.if-self-lt0.true in
-    rw (below_none cents c.unsigned_abs.result below size) (search rules)
+    let size : c.unsigned_abs-size.result ≡ nat_abs cents = c.unsigned_abs-size.ensures.value ∙ ap nat_abs same in
+    let sign : c.if-self-lt0.sign.now ≡ sign_text (is_negative cents) = elim c.if-self-lt0.branch [
+      | then-self-lt0 w ↦ let below : is_negative cents ≡ true = rw same at w.if-self-lt0.true in ap (λ r. r.now) w.sign-is ∙ rw below
+      | else-self-lt0 w ↦ let not : is_negative cents ≡ false = rw same at w.if-self-lt0.false in ap (λ r. r.now) w.sign-is ∙ rw not
+    ] in
+    rw (sign, size, c.laid_out.ensures) (amount_written cents)
 
-pub returns-else-self-lt0-clause-writes : goal.returns-else-self-lt0-clause-writes
-returns-else-self-lt0-clause-writes g c =
-    let cents = c.args.self.now.cents in
-    let same : to_z w64 (of_z w64 cents) ≡ cents = search rules in
-    let size : c.unsigned_abs.result ≡ nat_abs cents = c.unsigned_abs.ensures.value ∙ ap nat_abs same in
-    let not : lt_z cents (pos 0) ≡ false = rw same at c.if-self-lt0.false in
-    rw (not_below cents c.unsigned_abs.result not size) (search rules)
+pub returns-clause-writes : goal.returns-clause-writes
+returns-clause-writes g c = rw (whole g c) at c.pad.ensures.writes
+
+pub returns-clause-styled : goal.returns-clause-styled
+returns-clause-styled g c = rw (whole g c) at c.pad.ensures.styled
