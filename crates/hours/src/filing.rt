@@ -2,7 +2,9 @@
 use pricing::board::Board;
 use pricing::board::interval::Interval;
 use refusals::Refusal;
+use roster::kind::Kind;
 use roster::roster::Roster;
+use roster::side::Side;
 use std::fmt;
 use text::{Dollars, Megawatts};
 
@@ -21,20 +23,6 @@ pub enum Filing {
     Arrange(u16, Side, u32),
     // a QSE, a kind and a quantity
     Fail(u16, Kind, u32),
-}
-
-// Which of its obligations a QSE arranges, as the roster numbers them from 0.
-#[derive(Clone, Copy)]
-pub enum Side {
-    DayAhead,
-    Later,
-}
-
-// What a QSE did not provide, as the roster numbers it from 0.
-#[derive(Clone, Copy)]
-pub enum Kind {
-    Failed,
-    Infeasible,
 }
 
 // The course's cost allocation and adjustment: QSE 1 has 10% of the load and arranged 80 MW; the pool arranged 810 MW and bought 990 MW day-ahead and 10 MW
@@ -88,8 +76,8 @@ impl Filing {
             ),
             Filing::Enrol(qse, load, obligation) => roster.enrol(qse, load, obligation),
             Filing::Award(qse, market, tenths) => roster.award(board, qse, market, tenths),
-            Filing::Arrange(qse, side, tenths) => roster.arrange(qse, side as usize, tenths),
-            Filing::Fail(qse, kind, tenths) => roster.fail(qse, kind as usize, tenths),
+            Filing::Arrange(qse, side, tenths) => roster.arrange(qse, usize::from(side), tenths),
+            Filing::Fail(qse, kind, tenths) => roster.fail(qse, usize::from(kind), tenths),
         }
     }
 }
@@ -132,24 +120,6 @@ impl fmt::Display for Filing {
                 let quantity = Megawatts::from(tenths);
                 write!(f, "QSE {qse} has {quantity} {kind}")
             }
-        }
-    }
-}
-
-impl fmt::Display for Side {
-    fn fmt<W: fmt::Write>(&self, f: &mut fmt::Formatter<W>) -> fmt::Result {
-        match self {
-            Side::DayAhead => write!(f, "day-ahead"),
-            Side::Later => write!(f, "later"),
-        }
-    }
-}
-
-impl fmt::Display for Kind {
-    fn fmt<W: fmt::Write>(&self, f: &mut fmt::Formatter<W>) -> fmt::Result {
-        match self {
-            Kind::Failed => write!(f, "failed"),
-            Kind::Infeasible => write!(f, "infeasible"),
         }
     }
 }

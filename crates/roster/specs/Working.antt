@@ -1,30 +1,12 @@
 -- What the private functions of the roster hand to each other. No contract of a public function rests on these.
-use Rattle.std.specs.Prelude.{◌≡◌, ℕ, ◌+◌, ◌-◌, ◌<◌, ◌≤◌, ◌⊎◌, Bool, List, [], ◌∷◌, Result, Ok, Err, MatchResult, length, slice_index_or, slice_set}
+use Rattle.std.specs.Prelude.{◌≡◌, ℕ, ◌+◌, ◌-◌, ◌<◌, ◌≤◌, ◌⊎◌, Bool, List, [], ◌∷◌, Result, Ok, Err, length, slice_index_or, slice_set}
 use Rattle.refusals.specs.declared.Refusal.{Refusal}
-use Rattle.refusals.specs.declared.Refusal.TheVariants.{WrongQse, NoSuchPlace, QuantityAboveLimit, ArrangedAboveObligation}
+use Rattle.refusals.specs.declared.Refusal.TheVariants.{WrongQse, QuantityAboveLimit, ArrangedAboveObligation}
 use Rattle.refusals.specs.Refused.{Changes, Gives, first_of}
 use Rattle.roster.specs.Filing.{blank}
 use Rattle.roster.specs.Records.{arranged, arranged_above, awarded, defaulted, enrolments, too_much}
-use Rattle.roster.specs.declared.kind.Kind.{Kind}
-use Rattle.roster.specs.declared.kind.Kind.TheVariants.{Failed, Infeasible}
 use Rattle.roster.specs.declared.records.Record.{Record}
 use Rattle.roster.specs.declared.records.Totals.{Totals}
-use Rattle.roster.specs.declared.side.Side.{Side}
-use Rattle.roster.specs.declared.side.Side.TheVariants.{DayAhead, Later}
-
--- The number that stands for a side in a call.
-abbrev pub number_of_side : Side → ℕ
-number_of_side DayAhead = 0
-number_of_side Later = 1
-
--- The number that stands for a kind in a call.
-abbrev pub number_of_kind : Kind → ℕ
-number_of_kind Failed = 0
-number_of_kind Infeasible = 1
-
--- What a number names: the value that it stands for, or a refusal where there are not so many.
-abbrev pub Names : {A : Type 0} → (A → ℕ) → ℕ → ℕ → Result A Refusal → Type 0
-Names number_of count number answer = MatchResult answer (λ named. (number_of named ≡ number) × (number < count)) (λ refusal. (refusal ≡ NoSuchPlace) × (count ≤ number))
 
 -- Each number of a record is part of its total.
 pub record PartOf (totals : Totals) (old : Record) : Type 0 where

@@ -1,11 +1,13 @@
 ghost use Rattle.roster.specs.Limits.{kinds};
-ghost use Rattle.roster.specs.Working.{Names, number_of_kind};
+ghost use Rattle.roster.specs.Sides.{Names, number_of_kind, kind_text};
+ghost use Rattle.std.specs.Prelude.{◌≡◌, Some};
 
 use refusals::Refusal;
+use std::fmt;
 
 // The kind of a quantity that is not delivered. It is read like a side, and written out beside it: a form for both would be longer than either.
 #[derive(Clone, Copy, PartialEq, Eq, Debug)]
-pub(crate) enum Kind {
+pub enum Kind {
     Failed,
     Infeasible,
 }
@@ -20,6 +22,25 @@ impl TryFrom<usize> for Kind {
             0 => Ok(Kind::Failed),
             1 => Ok(Kind::Infeasible),
             _ => Err(Refusal::NoSuchPlace),
+        }
+    }
+}
+
+impl From<Kind> for usize {
+    ghost from_gives = { λ kind number. number ≡ number_of_kind kind };
+
+    fn from(kind: Kind) -> usize {
+        kind as usize
+    }
+}
+
+impl fmt::Display for Kind {
+    ghost output = { λ kind. Some (kind_text kind) };
+
+    fn fmt<W: fmt::Write>(&self, f: &mut fmt::Formatter<W>) -> fmt::Result {
+        match self {
+            Kind::Failed => write!(f, "failed"),
+            Kind::Infeasible => write!(f, "infeasible"),
         }
     }
 }

@@ -4,8 +4,8 @@
 // QSE with more arranged day-ahead than it owes. Filing changes the record of the QSE named and no other, and asks nothing of a caller.
 #![tactic(auto)]
 
-mod kind;
+pub mod kind;
 pub mod limits;
 pub mod records;
 pub mod roster;
-mod side;
+pub mod side;

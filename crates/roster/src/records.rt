@@ -2,7 +2,8 @@
 ghost use Rattle.std.specs.Prelude.{◌≡◌, ◌+◌, ◌-◌, ◌≤◌};
 ghost use Rattle.roster.specs.Filing.{newcomer, with_arranged, with_failed};
 ghost use Rattle.roster.specs.Records.{above, one_above, arranged, awarded, defaulted};
-ghost use Rattle.roster.specs.Working.{GivesUnless, PartOf, number_of_kind, number_of_side, totals_with};
+ghost use Rattle.roster.specs.Sides.{number_of_kind, number_of_side};
+ghost use Rattle.roster.specs.Working.{GivesUnless, PartOf, totals_with};
 
 use crate::kind::Kind;
 use crate::limits::MOST_ROSTER_TOTAL;

@@ -1,11 +1,13 @@
 ghost use Rattle.roster.specs.Limits.{sides};
-ghost use Rattle.roster.specs.Working.{Names, number_of_side};
+ghost use Rattle.roster.specs.Sides.{Names, number_of_side, side_text};
+ghost use Rattle.std.specs.Prelude.{◌≡◌, Some};
 
 use refusals::Refusal;
+use std::fmt;
 
 // The side on which a quantity is arranged.
 #[derive(Clone, Copy, PartialEq, Eq, Debug)]
-pub(crate) enum Side {
+pub enum Side {
     DayAhead,
     Later,
 }
@@ -20,6 +22,25 @@ impl TryFrom<usize> for Side {
             0 => Ok(Side::DayAhead),
             1 => Ok(Side::Later),
             _ => Err(Refusal::NoSuchPlace),
+        }
+    }
+}
+
+impl From<Side> for usize {
+    ghost from_gives = { λ side number. number ≡ number_of_side side };
+
+    fn from(side: Side) -> usize {
+        side as usize
+    }
+}
+
+impl fmt::Display for Side {
+    ghost output = { λ side. Some (side_text side) };
+
+    fn fmt<W: fmt::Write>(&self, f: &mut fmt::Formatter<W>) -> fmt::Result {
+        match self {
+            Side::DayAhead => write!(f, "day-ahead"),
+            Side::Later => write!(f, "later"),
         }
     }
 }
