@@ -1,5 +1,5 @@
--- The parts rounded down: how large they are together, and one more of them.
-use Rattle.std.proofs.Common.{◌≡◌, ℕ, ◌+◌, ◌*◌, ◌<◌, ◌≤◌, List, [], ◌∷◌, ◌++◌, map, length, get_or, set, take, ℤ, pos, ◌+ℤ◌, ◌*ℤ◌, ◌≤ℤ◌, unsigned_abs, sym, ap, ◌∙◌, mul-le-mul, arith}
+-- The parts rounded down, and the remainders: how large they are, and one more of them.
+use Rattle.std.proofs.Common.{◌≡◌, ℕ, ◌+◌, ◌*◌, ◌<◌, ◌≤◌, List, [], ◌∷◌, ◌++◌, map, length, get_or, set, slice_index, take, ℤ, pos, ◌+ℤ◌, ◌*ℤ◌, ◌≤ℤ◌, unsigned_abs, sym, ap, ◌∙◌, mul-le-mul, arith}
 use Rattle.std.proofs.lemmas.Int.{unsigned_abs-mul}
 use Rattle.std.proofs.lemmas.List.{length-map, take_more, take_more_set}
 use Rattle.std.proofs.lemmas.List.Sums.{sum_by-cons}
@@ -8,7 +8,8 @@ use Rattle.integers.proofs.Floors.{floor_size}
 use Rattle.integers.proofs.Totals.{total_more, front_at_most_size}
 use Rattle.sharing.specs.Shares.{nth, most_total, most_sizes}
 use Rattle.sharing.specs.declared.Division.{Division}
-use Rattle.largest_remainder.specs.Largest.{floor_of, floors}
+use Rattle.largest_remainder.specs.Largest.{floor_of, floors, all_remainders}
+use Rattle.largest_remainder.specs.Laws.{all_under}
 
 size-floors : (total W : ℤ) (weights : List ℤ) → pos 1 ≤ℤ W → size_of (map (floor_of total W) weights) ≤ unsigned_abs total * size_of weights
 unfolding floor_of
@@ -27,6 +28,11 @@ module _ (division : Division) where
   pub floors_small : size_of (floors division.total division.weights.now) ≤ most_total * most_sizes
   floors_small =
       omega (arith, size-floors division.total (total_of division.weights.now) division.weights.now division.in_range.positive, mul-le-mul division.in_range.small_total division.in_range.small_sizes)
+
+  pub remainders_low : (k : ℕ) → slice_index (all_remainders division.total division.weights.now) k < most_sizes
+  remainders_low k =
+      let small_sum = rw division.adds_up at division.small_sum in
+      omega (arith, all_under division.total (total_of division.weights.now) division.in_range.positive division.weights.now k)
 
   pub floors_more : (k : ℕ) → k < length division.weights.now → (total_of (take (k + 1) (floors division.total division.weights.now)) ≡ total_of (take k (floors division.total division.weights.now)) +ℤ nth (floors division.total division.weights.now) k)
       × (unsigned_abs (total_of (take (k + 1) (floors division.total division.weights.now))) ≤ most_total * most_sizes)

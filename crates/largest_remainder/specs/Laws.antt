@@ -1,24 +1,21 @@
 -- Largest remainder keeps the laws of a sharing rule.
 -- Proofs and nothing to believe: an implementation can cite its laws only from specs/.
-use Rattle.std.specs.Prelude.{◌≡◌, ℕ, zero, suc, ◌+◌, ◌*◌, ◌<◌, ◌≤◌, cond, ltb, ◌⊎◌, List, [], ◌∷◌, map, length, ℤ, pos, ◌+ℤ◌, ◌-ℤ◌, ◌*ℤ◌, ◌≤ℤ◌, ◌<ℤ◌, sum_by, sum, count_by, nat_lt, slice_index, unsigned_abs, refl}
-use Rattle.std.proofs.Common.{sym, subst, ◌∙◌, inl, inr, ⊎_elim, arith}
+use Rattle.std.specs.Prelude.{◌≡◌, ℕ, zero, suc, ◌*◌, ◌<◌, ◌≤◌, cond, ltb, ◌⊎◌, List, [], ◌∷◌, map, length, ℤ, pos, ◌+ℤ◌, ◌-ℤ◌, ◌*ℤ◌, ◌≤ℤ◌, ◌<ℤ◌, sum_by, sum, count_by, nat_lt, slice_index, unsigned_abs, refl}
+use Rattle.std.proofs.Common.{sym, subst, ◌∙◌, ⊎_elim, arith}
 use Rattle.std.proofs.Math.Path.{ap}
 use Rattle.std.proofs.Math.Nat.{le_of_mul-le-mul_left}
-use Rattle.std.proofs.Math.Nat as natural
 use Rattle.std.proofs.Math.IntN.{*ℤ_comm, *ℤ-zero}
 use Rattle.std.proofs.lemmas.Int.{ints}
 use Rattle.std.specs.List.{range_with_len}
-use Rattle.std.specs.Int.{int_div_euclid, int_rem_euclid}
 use Rattle.std.proofs.lemmas.List.FromFn.{get_or-map-range_with_len, length-map-range_with_len}
 use Rattle.std.proofs.lemmas.List.{get_or-map, length-map}
 use Rattle.std.proofs.lemmas.List.Sums.{sum_by-cons, count_by-le-length}
-use Rattle.std.proofs.lemmas.Bool.{cases_lt, cond-true, cond-false, lt-ltb, le-ltb}
 use Rattle.integers.specs.Totals.{total_of}
 use Rattle.integers.proofs.Products.{mul_add, mul_sub}
 use Rattle.integers.proofs.Floors.{euclid, euclid_under, euclid_none, other_factor}
 use Rattle.sharing.specs.Shares.{InRange, Fair, nth}
-use Rattle.largest_remainder.specs.Largest.{floor_of, remainder_of, floors, all_remainders, missing_units, ahead_of, unit_for, largest_remainder}
-use Rattle.largest_remainder.specs.Ranks.{ahead_over, units_add_up, map_shift, sum_shift}
+use Rattle.largest_remainder.specs.Largest.{floor_of, remainder_of, floors, all_remainders, missing_units, unit_for, largest_remainder}
+use Rattle.largest_remainder.specs.Ranks.{ahead_over, units_add_up, map_tail, sum_tail}
 
 -- A floor and its remainder.
 module _ (total W : ℤ) (positive : pos 1 ≤ℤ W) where
@@ -47,7 +44,7 @@ module _ (total W : ℤ) (positive : pos 1 ≤ℤ W) where
         sum_by-cons (λ r. r) (remainder_of total W weight) (map (remainder_of total W) weights),
       )
 
-  all_under : (weights : List ℤ) (k : ℕ) → slice_index (map (remainder_of total W) weights) k < unsigned_abs W
+  pub all_under : (weights : List ℤ) (k : ℕ) → slice_index (map (remainder_of total W) weights) k < unsigned_abs W
   all_under [] k = omega (arith, ints)
   all_under (weight ∷ weights) zero = remainder_under weight
   all_under (weight ∷ weights) (suc k) = all_under weights k
@@ -72,13 +69,14 @@ total_plus : (parts : List ℤ) (more : ℕ → ℕ) → total_of (map (λ k. nt
 total_plus [] more = refl
 total_plus (part ∷ parts) more =
     let n = length parts in
+    let f : ℕ → ℤ = λ k. nth (part ∷ parts) k +ℤ pos (more k) in
     omega (
       arith,
       ints,
-      ap total_of (map_shift (λ k. nth (part ∷ parts) k +ℤ pos (more k)) 0 n),
+      ap total_of (map_tail f (λ k. f (suc k)) n (pos 0) (λ k h. refl)),
+      sum_tail more (λ k. more (suc k)) n (λ k h. refl),
       total_plus parts (λ k. more (suc k)),
       sum_by-cons more 0 (range_with_len 1 n),
-      sum_shift more 0 n,
     )
 
 -- A floor with the unit that it may get is less than one unit from the exact share.
