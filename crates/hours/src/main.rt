@@ -5,7 +5,7 @@ mod filing;
 mod hour;
 mod table;
 
-use printing::{Stop, print};
+use printing::{Stop, finish};
 use std::io;
 use std::io::{BufWriter, Write};
 
@@ -16,5 +16,6 @@ fn print_all<W: Write>(out: &mut W) -> Result<(), Stop> {
 
 fn main(rt: HostRuntime) -> io::Result<()> {
     let mut out = BufWriter::new(rt.alloc(), rt.stdout())?;
-    print(&mut out, print_all)
+    let stopped = print_all(&mut out);
+    finish(&mut out, stopped)
 }

@@ -13,7 +13,7 @@ stop_text (Refused refusal) = Some (refusal_text refusal)
 stop_text TooLarge = Some (codes "an amount is too large to print")
 stop_text (Output error) = None
 
--- The steps ended so, with these bytes in the output: what stopped them is written after those in a line of its own, and an error of the output is the answer.
+-- The printing ended so, with these bytes in the output: what stopped it is written after them in a line of its own, and an error of the output is the answer.
 abbrev pub Ends : Result (Unit {0}) Stop → Option (List ℕ) → Option (List ℕ) → Result (Unit {0}) Error → Type 0
 Ends (Ok done) left after answer = OnOk answer (Keeps left after)
 Ends (Err (Output error)) left after answer = answer ≡ Err error

@@ -1,12 +1,11 @@
-// What the programs share: what can stop one while it prints, the sums that it shows, and printing until something stops it.
+// What the programs share: what can stop one while it prints, the sums that it shows, and how it ends.
 //
-// `print` promises what is written after the steps that print: nothing, or a line that says what stopped them; or that it answers the output's error.
+// `finish` promises what is written after what was printed: nothing, or a line that says what stopped it; or that it answers the output's error.
 #![tactic(auto)]
 
 ghost use Rattle.integers.specs.Totals.{size_of, total_of};
 ghost use Rattle.printing.specs.Stops.{Ends, stop_text};
 ghost use Rattle.printing.specs.declared.Stop.TheVariants.{Output, Refused, TooLarge};
-ghost use Rattle.std.specs.Fn.{FnOnceReturnsAtMut};
 ghost use Rattle.std.specs.Prelude.{◌≡◌, ◌≤◌, IsOkUnless};
 ghost use Rattle.std.specs.Result.{OkIff};
 
@@ -72,20 +71,8 @@ pub fn sum(amounts: &[i64]) -> Result<i64, Stop>
     total_within(amounts, u32::MAX).ok_or(Stop::TooLarge)
 }
 
-// Prints by the steps, and then what stopped them. An error of the output is handed on.
-pub fn print<W: Write, F: FnOnce(&mut W) -> Result<(), Stop>>(
-    out: &mut W,
-    steps: F,
-) -> io::Result<()>
-    requires { F.IsAlwaysCallable steps }
-    ensures { (stopped : _) × (left : W) × FnOnceReturnsAtMut F.FnOnce steps out.old stopped left
-        × Ends stopped (W.contents left) (W.contents out.new) result }
-{
-    let stopped = steps(out);
-    finish(out, stopped)
-}
-
-fn finish<W: Write>(out: &mut W, stopped: Result<(), Stop>) -> io::Result<()>
+// Writes what stopped the printing, where something did, and then all that is still held back. An error of the output is handed on.
+pub fn finish<W: Write>(out: &mut W, stopped: Result<(), Stop>) -> io::Result<()>
     ensures { Ends stopped (W.contents out.old) (W.contents out.new) result }
 {
     if let Err(stop) = stopped {

@@ -5,7 +5,7 @@ mod amounts;
 mod course;
 mod hour;
 
-use printing::{Stop, print};
+use printing::{Stop, finish};
 use std::io;
 use std::io::{BufWriter, Write};
 
@@ -18,5 +18,6 @@ fn print_all<W: Write>(out: &mut W) -> Result<(), Stop> {
 
 fn main(rt: HostRuntime) -> io::Result<()> {
     let mut out = BufWriter::new(rt.alloc(), rt.stdout())?;
-    print(&mut out, print_all)
+    let stopped = print_all(&mut out);
+    finish(&mut out, stopped)
 }
