@@ -30,7 +30,7 @@ low_average intervals fair = either (all_filed intervals) ((all_prices intervals
 pub kept : (board : Inside) → Sound board → Kept (plain board)
 kept board sound =
     record {
-      few = omega (arith, length-take board.cleared board.prices, sound.few);
-      low = λ market. low_taken board.prices board.cleared market sound.few sound.low;
-      low_top = max-le (highest_kept board.prices board.cleared sound.few sound.low) (low_average board.intervals sound.fair);
+      few = omega (arith, length-take board.cleared board.prices, sound.table.few);
+      low = λ market. low_taken board.prices board.cleared market sound.table.few sound.low;
+      low_top = max-le (highest_kept board.prices board.cleared sound.table.few sound.low) (low_average board.intervals sound.fair);
     }

@@ -1,9 +1,10 @@
 -- A roster in memory stays sound where a record is written in the place of another, and where a newcomer comes after all others.
-use Rattle.std.proofs.Common.{◌≡◌, ℕ, ◌+◌, ◌-◌, ◌<◌, ◌≤◌, false, if◌then◌else◌, List, [], ◌∷◌, ◌++◌, length, get_or, set, take, drop, replicate, Ok, sym, refl, ap, ◌∙◌, subst, arith}
+use Rattle.std.proofs.Common.{◌≡◌, ℕ, ◌+◌, ◌<◌, ◌≤◌, false, if◌then◌else◌, List, [], ◌∷◌, ◌++◌, length, get_or, set, take, Ok, sym, refl, ◌∙◌, subst, arith}
 use Rattle.std.proofs.Math.Seq.{take-set-lt}
-use Rattle.std.proofs.lemmas.List.{get_or-take, length-set, length-take-le, length_push, drop-drop, drop-replicate, drop-set-lt, take_more_set}
+use Rattle.std.proofs.lemmas.List.{get_or-take, length-set, length_push, take_more_set}
 use Rattle.std.proofs.lemmas.List.Sums.{sum_by-set, sum_by_push, get_or-le-sum_by}
 use Rattle.std.proofs.lemmas.Bool.{cond-false, le-ltb}
+use Rattle.tables.proofs.Entries.{count_back, table_push, table_set}
 use Rattle.roster.specs.Limits.{most_enrolled}
 use Rattle.roster.specs.Records.{Kept, arranged_above, enrolments, how_many_above, one_above, too_much, totals_of}
 use Rattle.roster.specs.Filing.{blank, newcomer}
@@ -53,7 +54,7 @@ given tried next totals same h = let there = subst (λ (t : Totals). TotalsGiven
 
 module _ (roster : Inside) (sound : Sound roster) where
   length_plain : length (plain roster) ≡ roster.count
-  length_plain = length-take-le roster.count roster.records (omega (arith, sound.full, sound.few))
+  length_plain = count_back most_enrolled (newcomer 0 0 0) roster.count roster.records sound.table
 
   module _ (place : ℕ) (new : Record) (totals : Totals) (inside : place < length (plain roster)) (h : TotalsGiven (totals_with roster.totals (get_or roster.records place blank) new) totals)
       (low : new.arranged.ahead ≤ new.obligation) where
@@ -78,11 +79,9 @@ module _ (roster : Inside) (sound : Sound roster) where
     pub record_sound : new.qse ≡ (get_or (plain roster) place blank).qse → Sound (record { records = set roster.records place new; count = roster.count; totals = totals })
     record_sound same =
         record {
-          full = length-set roster.records place new ∙ sound.full;
-          few = sound.few;
+          table = table_set most_enrolled (newcomer 0 0 0) roster.count roster.records sound.table place new stands;
           kept = rw plain_set (kept_set (plain roster) place new sound.kept inside same (le-ltb _ _ low) below.0);
           right = rw plain_set below.1;
-          rest = drop-set-lt roster.count roster.records place new stands ∙ sound.rest;
         }
 
   module _ (qse load obligation : ℕ) (totals : Totals) (room : roster.count < most_enrolled) (h : TotalsGiven (totals_with roster.totals (newcomer 0 0 0) (newcomer qse load obligation)) totals) where
@@ -90,23 +89,13 @@ module _ (roster : Inside) (sound : Sound roster) where
     new = newcomer qse load obligation
 
     plain_pushed : take (roster.count + 1) (set roster.records roster.count new) ≡ plain roster ++ new ∷ []
-    plain_pushed = take_more_set roster.records roster.count new (omega (arith, room, sound.full))
-
-    rest_pushed : drop (roster.count + 1) (set roster.records roster.count new) ≡ replicate (most_enrolled - (roster.count + 1)) (newcomer 0 0 0)
-    rest_pushed =
-        drop-set-lt (roster.count + 1) roster.records roster.count new (omega arith)
-        ∙ sym (drop-drop 1 roster.count roster.records)
-        ∙ ap (drop 1) sound.rest
-        ∙ drop-replicate 1 (most_enrolled - roster.count) (newcomer 0 0 0)
-        ∙ ap (λ n. replicate n (newcomer 0 0 0)) (omega arith)
+    plain_pushed = take_more_set roster.records roster.count new (omega (arith, room, sound.table.full))
 
     pub newcomer_sound : (qse ≡ 0 → ⊥) → enrolments qse (plain roster) ≡ 0 → Sound (record { records = set roster.records roster.count new; count = roster.count + 1; totals = totals })
     newcomer_sound some none =
         let below = given _ _ totals ((λ j. totals_with (sound.right j) (newcomer 0 0 0) new) ∙ totals_pushed (plain roster) new) h in
         record {
-          full = length-set roster.records roster.count new ∙ sound.full;
-          few = omega (arith, room);
+          table = table_push most_enrolled (newcomer 0 0 0) roster.count roster.records sound.table new room;
           kept = rw plain_pushed (kept_pushed (plain roster) new sound.kept (omega (arith, room, length_plain)) some none (le-ltb obligation 0 (omega arith)) below.0);
           right = rw plain_pushed below.1;
-          rest = rest_pushed;
         }

@@ -1,7 +1,7 @@
 -- A statement in memory, read as its rows, and what working it out promises.
-use Rattle.std.specs.Prelude.{◌≡◌, ◌-◌, ◌≤◌, List, ◌++◌, length, take, drop, replicate, IfOk, Result}
-use Rattle.std.proofs.Common.{arith}
-use Rattle.std.proofs.lemmas.List.{take-append-drop, length-take-le}
+use Rattle.std.specs.Prelude.{◌≡◌, List, length, take, IfOk, Result}
+use Rattle.tables.specs.Tables.{IsTable, table_of}
+use Rattle.tables.proofs.Entries.{count_back, table_back}
 use Rattle.pricing.specs.Boards.{PlainBoard}
 use Rattle.refusals.specs.Refused.{Gives}
 use Rattle.refusals.specs.declared.Refusal.{Refusal}
@@ -17,21 +17,17 @@ abbrev pub plain : Inside → List Row
 plain statement = take statement.count statement.rows
 
 -- What holds of a statement in memory: it is not too long, and past its rows all are blank.
-pub record Sound (statement : Inside) : Type 0 where
-  pub full : length statement.rows ≡ most_enrolled
-  pub few : statement.count ≤ most_enrolled
-  pub rest : drop statement.count statement.rows ≡ replicate (most_enrolled - statement.count) blank_row
+abbrev pub Sound : Inside → Type 0
+Sound statement = IsTable most_enrolled blank_row statement.count statement.rows
 
 -- The statement in memory that rows are read from.
 abbrev pub in_memory : List Row → Inside
-in_memory rows = record { rows = rows ++ replicate (most_enrolled - length rows) blank_row; count = length rows }
+in_memory rows = record { rows = table_of most_enrolled blank_row rows; count = length rows }
 
 -- Nothing of the statement in memory is lost.
 pub in_memory_of_plain : (statement : Inside) → Sound statement → in_memory (plain statement) ≡ statement
 in_memory_of_plain statement sound =
-    let count : length (plain statement) ≡ statement.count = length-take-le statement.count statement.rows (omega (arith, sound.full, sound.few)) in
-    let rows : plain statement ++ replicate (most_enrolled - length (plain statement)) blank_row ≡ statement.rows = rw count (rw (← sound.rest) (take-append-drop statement.count statement.rows)) in
-    (λ i. record { rows = rows i; count = count i })
+    (λ i. record { rows = table_back most_enrolled blank_row statement.count statement.rows sound i; count = count_back most_enrolled blank_row statement.count statement.rows sound i })
 
 -- How working a statement out answers: refused, it shows why; else the statement's rows are those defined.
 abbrev pub Works : Rules → PlainBoard → List Record → Result (List Row) Refusal → Type 0

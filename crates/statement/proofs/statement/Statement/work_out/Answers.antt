@@ -1,32 +1,24 @@
-use Rattle.std.proofs.Common.{◌≡◌, ℕ, ◌-◌, ◌≤◌, List, ◌++◌, length, drop, replicate, sym, ap, ◌∙◌, subst, arith}
-use Rattle.std.proofs.lemmas.List.{drop-replicate, length-append, length-drop, length-replicate, take_at}
+use Rattle.std.proofs.Common.{List, ◌++◌, length, drop, replicate, sym, ap, ◌∙◌, subst}
+use Rattle.std.proofs.lemmas.List.{take_at}
 use Rattle.std.proofs.lemmas.List.FromFn.{length-map-range_with_len}
-use Rattle.std.proofs.lemmas.Slice.{drop-append-drop}
+use Rattle.tables.specs.Tables.{IsTable}
+use Rattle.tables.proofs.Entries.{table_written}
 use Rattle.pricing.specs.Boards.{PlainBoard}
 use Rattle.roster.specs.Limits.{most_enrolled}
 use Rattle.roster.specs.declared.records.Record.{Record}
 use Rattle.statement.specs.Amounts.{rules_of, statement}
-use Rattle.statement.specs.Laws.{Lawful, blank_row}
-use Rattle.statement.specs.Views.{Sound}
+use Rattle.statement.specs.Laws.{Lawful}
 use Rattle.statement.specs.declared.amounts.Row.{Row}
 use Rattle.statement.proofs.Passed.{passed}
 use Rattle.statement.proofs.Statements.{lawful}
 use Rattle.statement.proofs.statement.Statement.work_out.Goals as goal
 
--- The rows written and the blank rows after them.
-sound : (written : List Row) (n : ℕ) (blank : Row) → blank ≡ blank_row → length written ≡ n → n ≤ most_enrolled
-    → Sound (record { rows = written ++ drop n (replicate most_enrolled blank); count = n })
-sound written n blank none long few =
-    record {
-      full = omega (arith, length-append written (drop n (replicate most_enrolled blank)), length-drop n (replicate most_enrolled blank), length-replicate most_enrolled blank, long, few);
-      few = few;
-      rest = drop-append-drop n (replicate most_enrolled blank) written n (omega arith) long ∙ drop-replicate n most_enrolled blank ∙ ap (replicate (most_enrolled - n)) none;
-    }
-
 pub invariant_of-result : goal.invariant_of-result
 invariant_of-result g c =
     let records = c.in_ok-hour.hour.records.now in
-    sound c.write_rows.new.rows (length records) c.blank-rows.result c.blank-rows.ensures (ap length c.in_ok-write_rows.ensures.1 ∙ length-map-range_with_len _ 0 (length records)) c.in_ok-hour.hour.kept.few
+    let blank = c.blank-rows.result in
+    subst (λ (b : Row). IsTable most_enrolled b (length records) (c.write_rows.new.rows ++ drop (length records) (replicate most_enrolled blank))) c.blank-rows.ensures
+    (table_written most_enrolled blank c.write_rows.new.rows (length records) (ap length c.in_ok-write_rows.ensures.1 ∙ length-map-range_with_len _ 0 (length records)) c.in_ok-hour.hour.kept.few)
 
 pub returns-clause-laws : goal.returns-clause-laws
 returns-clause-laws g c =
