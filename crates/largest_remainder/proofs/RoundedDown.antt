@@ -1,7 +1,7 @@
 -- The parts rounded down, and the remainders: how large they are, and one more of them.
-use Rattle.std.proofs.Common.{◌≡◌, ℕ, ◌+◌, ◌*◌, ◌<◌, ◌≤◌, List, [], ◌∷◌, ◌++◌, map, length, get_or, set, slice_index, take, ℤ, pos, ◌+ℤ◌, ◌*ℤ◌, ◌≤ℤ◌, unsigned_abs, sym, ap, ◌∙◌, mul-le-mul, arith}
+use Rattle.std.proofs.Common.{◌≡◌, ℕ, ◌+◌, ◌*◌, ◌<◌, ◌≤◌, List, [], ◌∷◌, map, length, slice_index, take, ℤ, pos, ◌+ℤ◌, ◌*ℤ◌, ◌≤ℤ◌, unsigned_abs, ap, mul-le-mul, arith}
 use Rattle.std.proofs.lemmas.Int.{unsigned_abs-mul}
-use Rattle.std.proofs.lemmas.List.{length-map, take_more, take_more_set}
+use Rattle.std.proofs.lemmas.List.{length-map}
 use Rattle.std.proofs.lemmas.List.Sums.{sum_by-cons}
 use Rattle.integers.specs.Totals.{total_of, size_of}
 use Rattle.integers.proofs.Floors.{floor_size}
@@ -40,7 +40,3 @@ module _ (division : Division) where
       let fs = floors division.total division.weights.now in
       let long = length-map division.weights.now (floor_of division.total (total_of division.weights.now)) in
       (total_more fs k (pos 0) (omega arith), omega (arith, front_at_most_size fs (k + 1), floors_small))
-
--- A loop that writes one list over another has written one element more.
-pub taken_more : {X : Type 0} (xs ys : List X) (k : ℕ) (d x : X) → k < length xs → k < length ys → x ≡ get_or ys k d → take k xs ≡ take k ys → take (k + 1) (set xs k x) ≡ take (k + 1) ys
-taken_more xs ys k d x inside room e so_far = take_more_set xs k x inside ∙ (λ j. so_far j ++ e j ∷ []) ∙ sym (take_more ys k d room)

@@ -1,6 +1,6 @@
 -- Largest remainder keeps the laws of a sharing rule.
 -- Proofs and nothing to believe: an implementation can cite its laws only from specs/.
-use Rattle.std.specs.Prelude.{◌≡◌, ℕ, zero, suc, ◌*◌, ◌<◌, ◌≤◌, cond, ltb, ◌⊎◌, List, [], ◌∷◌, map, length, ℤ, pos, ◌+ℤ◌, ◌-ℤ◌, ◌*ℤ◌, ◌≤ℤ◌, ◌<ℤ◌, sum_by, sum, count_by, nat_lt, slice_index, unsigned_abs, refl}
+use Rattle.std.specs.Prelude.{◌≡◌, ℕ, zero, suc, ◌*◌, ◌<◌, ◌≤◌, ◌⊎◌, List, [], ◌∷◌, map, length, ℤ, pos, ◌+ℤ◌, ◌-ℤ◌, ◌*ℤ◌, ◌≤ℤ◌, ◌<ℤ◌, sum_by, sum, count_by, nat_lt, slice_index, unsigned_abs, refl}
 use Rattle.std.proofs.Common.{sym, subst, ◌∙◌, ⊎_elim, arith}
 use Rattle.std.proofs.Math.Path.{ap}
 use Rattle.std.proofs.Math.Nat.{le_of_mul-le-mul_left}
@@ -15,7 +15,7 @@ use Rattle.integers.proofs.Products.{mul_add, mul_sub}
 use Rattle.integers.proofs.Floors.{euclid, euclid_under, euclid_none, other_factor}
 use Rattle.sharing.specs.Shares.{InRange, Fair, nth}
 use Rattle.largest_remainder.specs.Largest.{floor_of, remainder_of, floors, all_remainders, missing_units, unit_for, largest_remainder}
-use Rattle.largest_remainder.specs.Ranks.{ahead_over, units_add_up, map_tail, sum_tail}
+use Rattle.largest_remainder.specs.Ranks.{one_if, ahead_over, units_add_up, map_tail, sum_tail}
 
 -- A floor and its remainder.
 module _ (total W : ℤ) (positive : pos 1 ≤ℤ W) where
@@ -50,18 +50,18 @@ module _ (total W : ℤ) (positive : pos 1 ≤ℤ W) where
   all_under (weight ∷ weights) (suc k) = all_under weights k
 
 -- At most as many units are missing as members have a remainder.
-few_missing : (W units : ℕ) (remainders : List ℕ) → 1 ≤ W → ((k : ℕ) → slice_index remainders k < W) → W * units ≡ sum remainders → units ≤ count_by (ltb 0) remainders
+few_missing : (W units : ℕ) (remainders : List ℕ) → 1 ≤ W → ((k : ℕ) → slice_index remainders k < W) → W * units ≡ sum remainders → units ≤ count_by (nat_lt 0) remainders
 few_missing W units remainders some under e = le_of_mul-le-mul_left {k = W} (omega (arith, sum_within remainders under)) some
   where
-    sum_within : (rs : List ℕ) → ((k : ℕ) → slice_index rs k < W) → sum rs ≤ W * count_by (ltb 0) rs
+    sum_within : (rs : List ℕ) → ((k : ℕ) → slice_index rs k < W) → sum rs ≤ W * count_by (nat_lt 0) rs
     sum_within [] under = omega arith
     sum_within (r ∷ rs) under =
-        let one : ℕ = cond (nat_lt 0 r) 1 0 in
+        let one = one_if (nat_lt 0 r) in
         let here : r ≤ W * one = grind (arith, under 0) in
-        omega (arith, sum_by-cons (λ y. y) r rs, ap (λ m. W * m) (sum_by-cons (λ y. cond (nat_lt 0 y) 1 0) r rs), sum_within rs (λ k. under (suc k)))
+        omega (arith, sum_by-cons (λ y. y) r rs, ap (λ m. W * m) (sum_by-cons (λ y. one_if (nat_lt 0 y)) r rs), sum_within rs (λ k. under (suc k)))
 
 -- Who gets a unit has a remainder.
-unit_or_none : (units : ℕ) (remainders : List ℕ) (k : ℕ) → k < length remainders → units ≤ count_by (ltb 0) remainders → (unit_for units remainders k ≡ 0) ⊎ ((unit_for units remainders k ≡ 1) × (0 < slice_index remainders k))
+unit_or_none : (units : ℕ) (remainders : List ℕ) (k : ℕ) → k < length remainders → units ≤ count_by (nat_lt 0) remainders → (unit_for units remainders k ≡ 0) ⊎ ((unit_for units remainders k ≡ 1) × (0 < slice_index remainders k))
 unit_or_none units remainders k inside few = grind (arith, ahead_over 0 remainders k inside)
 
 -- Units on top of parts add up to the parts and the units.
@@ -99,7 +99,7 @@ largest_fair total weights range =
     let long_remainders : length rs ≡ length weights = length-map weights (remainder_of total W) in
     let product : W *ℤ (total -ℤ total_of fs) ≡ pos (sum rs) = omega (arith, ints, mul_sub W total (total_of fs), *ℤ_comm W total, all_floors_and_remainders total W positive weights) in
     let left = other_factor W (total -ℤ total_of fs) (sum rs) positive product in
-    let few : units ≤ count_by (ltb 0) rs = few_missing (unsigned_abs W) units rs (omega (arith, ints)) (all_under total W positive weights) left.1 in
+    let few : units ≤ count_by (nat_lt 0) rs = few_missing (unsigned_abs W) units rs (omega (arith, ints)) (all_under total W positive weights) left.1 in
     let part : ℕ → ℤ = λ k. nth fs k +ℤ pos (unit_for units rs k) in
     let part_is : (k : ℕ) → k < length weights → nth (largest_remainder total weights) k ≡ part k = λ k h. get_or-map-range_with_len part 0 (length fs) k k (pos 0) (omega arith) (omega arith) in
     let floor_is : (k : ℕ) → k < length weights → nth fs k ≡ floor_of total W (nth weights k) = λ k h. get_or-map (floor_of total W) weights k (pos 0) (pos 0) h in
@@ -116,7 +116,7 @@ largest_fair total weights range =
       add_up =
           total_plus fs (unit_for units rs)
           ∙ ap (λ n. total_of fs +ℤ pos (sum_by (unit_for units rs) (range_with_len 0 n))) (long_floors ∙ sym long_remainders)
-          ∙ ap (λ n. total_of fs +ℤ pos n) (units_add_up units rs (omega (arith, count_by-le-length (ltb 0) rs)))
+          ∙ ap (λ n. total_of fs +ℤ pos n) (units_add_up units rs (omega (arith, count_by-le-length (nat_lt 0) rs)))
           ∙ omega (arith, ints, left.0);
       not_above = λ k h. (near k h).0;
       not_below = λ k h. (near k h).1;

@@ -1,6 +1,6 @@
 -- How many members have fewer members before them than units are missing: just as many as units.
 -- Proofs and nothing to believe: an implementation can cite its laws only from specs/.
-use Rattle.std.specs.Prelude.{◌≡◌, ℕ, suc, ◌+◌, ◌-◌, ◌<◌, ◌≤◌, Bool, cond, List, [], ◌∷◌, map, length, take, drop, sum_by, sum, count_by, nat_le, nat_lt, slice_index}
+use Rattle.std.specs.Prelude.{◌≡◌, ℕ, suc, ◌+◌, ◌-◌, ◌<◌, ◌≤◌, Bool, if◌then◌else◌, List, [], ◌∷◌, map, length, take, drop, sum_by, sum, count_by, nat_le, nat_lt, slice_index}
 use Rattle.std.proofs.Common.{sym, ap, ◌∙◌, ⊎_elim, arith}
 use Rattle.std.specs.List.{range_with_len}
 use Rattle.std.proofs.lemmas.List.FromFn.{fill_by_all, get_or-map-range_with_len, length-map-range_with_len}
@@ -10,8 +10,8 @@ use Rattle.std.proofs.lemmas.Bool.Decides.{nat_tests}
 use Rattle.largest_remainder.specs.Largest.{ahead_of, unit_for}
 
 -- What a test adds to a count.
-abbrev one_if : Bool → ℕ
-one_if b = cond b 1 0
+abbrev pub one_if : Bool → ℕ
+one_if b = if b then 1 else 0
 
 -- A count at a place: what stands before it, it, and what stands after.
 count_at : (p : ℕ → Bool) (xs : List ℕ) (k : ℕ) → k < length xs → count_by p xs ≡ count_by p (take k xs) + (one_if (p (slice_index xs k)) + count_by p (drop (k + 1) xs))

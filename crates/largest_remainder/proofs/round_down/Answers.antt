@@ -3,12 +3,10 @@ use Rattle.std.proofs.lemmas.Int.{ints, to_z-of_z}
 use Rattle.std.proofs.lemmas.List.{get_or-map, length-map, take_all}
 use Rattle.integers.specs.Totals.{total_of}
 use Rattle.sharing.specs.Shares.{nth}
+use Rattle.sharing.proofs.Parts.{taken_more}
 use Rattle.largest_remainder.specs.Largest.{floor_of, remainder_of, floors, all_remainders}
-use Rattle.largest_remainder.proofs.RoundedDown.{floors_more, taken_more}
+use Rattle.largest_remainder.proofs.RoundedDown.{floors_more}
 use Rattle.largest_remainder.proofs.round_down.Goals as goal
-
-pub loop-k-init : goal.loop-k-init
-loop-k-init c = record { rounded_down = search rules; left = search rules; missing = omega (arith, ints) }
 
 pub overflow_sub-missing : goal.overflow_sub-missing
 overflow_sub-missing c =
@@ -25,8 +23,8 @@ loop-k-preserved c =
     let long_floors = length-map division.weights.now (floor_of division.total (total_of division.weights.now)) in
     let long_remainders = length-map division.weights.now (remainder_of division.total (total_of division.weights.now)) in
     record {
-      rounded_down = taken_more c.loop-k.parts fs k (pos 0) _ (search rules) (omega arith) (omega (arith, ints)) c.loop-k.invariant.rounded_down;
-      left = taken_more c.loop-k.remainders rs k 0 _ (search rules) (omega arith) (grind (arith, to_z-of_z, get_or-map)) c.loop-k.invariant.left;
+      rounded_down = taken_more fs c.loop-k.parts k (pos 0) _ (search rules) (omega arith) c.loop-k.invariant.rounded_down (omega (arith, ints));
+      left = taken_more rs c.loop-k.remainders k 0 _ (search rules) (omega arith) c.loop-k.invariant.left (grind (arith, to_z-of_z, get_or-map));
       missing = omega (arith, ints, floors_more division k (omega arith));
     }
 
