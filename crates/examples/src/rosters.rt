@@ -14,14 +14,14 @@ fn cleared() -> Result<Board, Refusal> {
 }
 
 // QSE 7 with load 60 and obligation 60, and QSE 9 with 40 and 40.
-fn enrolled() -> Result<Roster, Refusal> {
+pub(crate) fn enrolled() -> Result<Roster, Refusal> {
     let mut roster = Roster::new();
     roster.enrol(7, 60, 60)?;
     roster.enrol(9, 40, 40)?;
     Ok(roster)
 }
 
-// The numbers of each filing call.
+// The numbers of each filing call. Sides and kinds are numbers here too, since 2 is tried.
 #[derive(Clone, Copy)]
 enum Filing {
     Enrol(u16, u32, u32),
@@ -327,6 +327,7 @@ fn a_filing_call_changes_one_number_of_the_qse_named(rt: HostRuntime) -> Result<
 #[test]
 fn sixty_four_enrol_and_no_more(rt: HostRuntime) {
     let mut roster = Roster::new();
+    // The QSE's own number is what is filed.
     for qse in 1..65 {
         assert_eq!(rt; roster.enrol(qse, 3_125, 3_125), Ok(()));
     }

@@ -1,4 +1,5 @@
 use crate::boards::file_intervals;
+use crate::rosters;
 use defaults::{DayAhead, Highest};
 use largest_remainder::LargestRemainder;
 use pricing::board::Board;
@@ -55,9 +56,7 @@ fn refusal_of(board: &Board, roster: &Roster) -> Option<Refusal> {
 
 // QSE 7 has load 60 and obligation 60, QSE 9 has 40 and 40, QSE 3 has nothing.
 fn enrolled() -> Result<Roster, Refusal> {
-    let mut roster = Roster::new();
-    roster.enrol(7, 60, 60)?;
-    roster.enrol(9, 40, 40)?;
+    let mut roster = rosters::enrolled()?;
     roster.enrol(3, 0, 0)?;
     Ok(roster)
 }

@@ -23,6 +23,7 @@ impl SharingRule for LargestRemainder {
 
     fn split(total: i64, weights: &[i64], parts: &mut [i64]) -> Result<(), Refusal> {
         let division = Division::new(total, weights, parts.len())?;
+        // A table on the stack: the library uses no heap.
         let mut remainders = [0; MOST_MEMBERS];
         write_parts(&division, parts, &mut remainders[..weights.len()]);
         Ok(())
@@ -69,6 +70,7 @@ fn divide(division: &Division, weight: i64) -> (i64, u32)
     ensures remainder { result.1 ≡ remainder_of division.now.total division.now.weight_sum weight }
 {
     let product = division.total * weight;
+    // The remainder is proved to fit: `try_from` would bring an error that cannot come.
     (
         product.div_euclid(division.weight_sum),
         product.rem_euclid(division.weight_sum) as u32,

@@ -22,6 +22,7 @@ pub enum Refusal {
 }
 
 impl Refusal {
+    // The number that an analyst sees. A method with a name, and not a `From` for `u8`, so that a call says which number it asks for.
     pub fn number(self) -> u8
         ensures { result ≡ number_of self }
     {

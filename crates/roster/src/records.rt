@@ -125,6 +125,7 @@ fn replaced(total: u32, old: u64, new: u64) -> Result<u32, Refusal>
     if sum > MOST_ROSTER_TOTAL {
         return Err(Refusal::QuantityAboveLimit);
     }
+    // Proved to fit: `try_from` would bring an error that cannot come.
     Ok(sum as u32)
 }
 

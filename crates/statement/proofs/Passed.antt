@@ -1,6 +1,6 @@
 -- What the checks of a statement tell once they are passed.
+use Rattle.std.specs.Prelude.{int_lt}
 use Rattle.std.proofs.Common.{◌≡◌, ℕ, ◌≤◌, Bool, true, false, not, ◌&&◌, eqb, List, [], ◌∷◌, map, length, ℤ, pos, unsigned_abs, ◌≤ℤ◌, Some, None, Ok, Err, Option, sym, refl, ap, ◌∙◌, subst, arith}
-use lib.Signed.{lt_z}
 use Rattle.std.proofs.lemmas.Int.{ints}
 use Rattle.std.proofs.lemmas.Bool.{cond-false, eqb-true, eqb-false, eq-eqb, ne_eqb}
 use Rattle.integers.specs.Totals.{total_of}
@@ -42,7 +42,7 @@ pub passed : (rules : Rules) (board : PlainBoard) (records : List Record) → re
 passed rules board records e =
     let tests =
     none_of (eqb (length board.prices) 0) (is_zero (day_ahead_cost board records)) (is_zero (total_of (map open_day_ahead records))) (is_zero (net_cost rules.defaults board records))
-    (lt_z (bought records) (pos 1)) (is_zero (total_of (map load_of records))) e
+    (int_lt (bought records) (pos 1)) (is_zero (total_of (map load_of records))) e
     in
     record {
       cleared = some (eqb-false (length board.prices) 0 tests.0);
@@ -54,19 +54,19 @@ passed rules board records e =
     some : {n : ℕ} → (n ≡ 0 → ⊥) → 1 ≤ n
     some h = omega arith
 
-    at_least : (b : ℤ) → lt_z b (pos 1) ≡ false → pos 1 ≤ℤ b
+    at_least : (b : ℤ) → int_lt b (pos 1) ≡ false → pos 1 ≤ℤ b
     at_least b h = omega (arith, ints)
 
 -- The checks on numbers worked out are the checks that are defined.
 pub refused_as : (rules : Rules) (board : PlainBoard) (records : List Record) (ahead net some : ℤ) (left loads : ℕ) → eqb (length board.prices) 0 ≡ false
     → ahead ≡ day_ahead_cost board records → net ≡ net_cost rules.defaults board records → pos left ≡ total_of (map open_day_ahead records) → some ≡ bought records
     → pos loads ≡ total_of (map load_of records)
-    → first_of ((not (is_zero ahead) && eqb left 0, NothingOpenDayAhead) ∷ (not (is_zero net) && lt_z some (pos 1), NothingBought) ∷ (not (is_zero net) && eqb loads 0, NoLoad) ∷ []) ≡ refused rules board records
+    → first_of ((not (is_zero ahead) && eqb left 0, NothingOpenDayAhead) ∷ (not (is_zero net) && int_lt some (pos 1), NothingBought) ∷ (not (is_zero net) && eqb loads 0, NoLoad) ∷ []) ≡ refused rules board records
 refused_as rules board records ahead net some left loads cleared ahead_is net_is left_is some_is loads_is =
     (λ j.
     first_of (
     (not (is_zero (ahead_is j)) && is_zero (left_is j), NothingOpenDayAhead)
-    ∷ (not (is_zero (net_is j)) && lt_z (some_is j) (pos 1), NothingBought)
+    ∷ (not (is_zero (net_is j)) && int_lt (some_is j) (pos 1), NothingBought)
     ∷ (not (is_zero (net_is j)) && is_zero (loads_is j), NoLoad)
     ∷ []
     ))
@@ -91,7 +91,7 @@ module _ (rules : Rules) (board : PlainBoard) (records : List Record) (costs : C
   tests =
       first_of (
       (not (is_zero costs.ahead) && eqb quantities.ahead 0, NothingOpenDayAhead)
-      ∷ (not (is_zero costs.net) && lt_z quantities.bought (pos 1), NothingBought)
+      ∷ (not (is_zero costs.net) && int_lt quantities.bought (pos 1), NothingBought)
       ∷ (not (is_zero costs.net) && eqb quantities.loads 0, NoLoad)
       ∷ []
       )

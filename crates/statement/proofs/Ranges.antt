@@ -1,5 +1,5 @@
 -- No sharing of a statement is out of a sharing rule's range, whatever the rule: from the limits of the roster and the laws of the rule.
-use Rattle.std.proofs.Common.{◌≡◌, ℕ, ◌-◌, ◌<◌, ◌≤◌, false, cond, List, [], ◌∷◌, map, length, ℤ, pos, ◌+ℤ◌, ◌-ℤ◌, unsigned_abs, ◌≤ℤ◌, sum_by, refl, ap, ◌∙◌, ⊎_elim, arith}
+use Rattle.std.proofs.Common.{◌≡◌, ℕ, ◌-◌, ◌<◌, ◌≤◌, false, if◌then◌else◌, List, [], ◌∷◌, map, length, ℤ, pos, ◌+ℤ◌, ◌-ℤ◌, unsigned_abs, ◌≤ℤ◌, sum_by, refl, ap, ◌∙◌, ⊎_elim, arith}
 use Rattle.std.proofs.lemmas.Int.{ints}
 use Rattle.std.specs.List.{range_with_len}
 use Rattle.std.proofs.lemmas.List.FromFn.{length-map-range_with_len}
@@ -34,7 +34,7 @@ small totals none = record { loads = grind arith; obligations = grind arith; awa
 pub covered : (records : List Record) → how_many_above records ≡ 0 → sum_by (λ r. r.arranged.ahead) records ≤ sum_by (λ r. r.obligation) records
 covered [] none = omega arith
 covered (r ∷ records) none =
-    let first = sum_by-cons (λ (r : Record). cond {A = ℕ} (arranged_above r) 1 0) r records in
+    let first = sum_by-cons (λ (r : Record). if arranged_above r then 1 else 0) r records in
     let within : arranged_above r ≡ false =
     ⊎_elim (λ above. absurd (omega (arith, first, none, cond-true {A = ℕ} (arranged_above r) 1 0 above))) (λ b. b) (cases_Bool (arranged_above r))
     in

@@ -1,5 +1,5 @@
 -- The laws of a statement, from the laws of its rules.
-use Rattle.std.proofs.Common.{◌≡◌, ℕ, ◌<◌, ◌≤◌, cond, eqb, List, map, length, ℤ, pos, ◌+ℤ◌, ◌-ℤ◌, ◌*ℤ◌, neg_ℤ, unsigned_abs, ◌≤ℤ◌, ◌<ℤ◌, sum_by, sym, refl, ap, ◌∙◌, subst, arith}
+use Rattle.std.proofs.Common.{◌≡◌, ℕ, ◌<◌, ◌≤◌, if◌then◌else◌, eqb, List, map, length, ℤ, pos, ◌+ℤ◌, ◌-ℤ◌, ◌*ℤ◌, neg_ℤ, unsigned_abs, ◌≤ℤ◌, ◌<ℤ◌, sum_by, sym, refl, ap, ◌∙◌, subst, arith}
 use Rattle.std.proofs.lemmas.Int.{ints}
 use Rattle.std.specs.List.{range_with_len}
 use Rattle.std.proofs.lemmas.List.FromFn.{get_or-map-range_with_len, length-map-range_with_len}
@@ -99,7 +99,7 @@ module _ (rules : Rules) (fair : (total : ℤ) (weights : List ℤ) → InRange 
 
   once : (qse : ℕ) → rows_with qse (statement rules board records) ≤ 1
   once qse =
-      let one : ℕ → ℕ = λ n. cond (eqb n qse) 1 0 in
+      let one : ℕ → ℕ = λ n. if eqb n qse then 1 else 0 in
       let same : rows_with qse (statement rules board records) ≡ enrolments qse records =
       sym (sumBy_map one (λ (r : Row). r.qse) (statement rules board records)) ∙ ap (sum_by one) in_order ∙ sumBy_map one (λ (r : Record). r.qse) records
       in

@@ -31,6 +31,7 @@ fn paid(cents: u64) -> i64
     requires { cents ≤ most_cost }
     ensures { result ≡ neg_ℤ (pos cents) }
 {
+    // Proved to fit, here and below: `try_from` would bring an error that cannot come.
     -(cents as i64)
 }
 

@@ -1,4 +1,4 @@
-// The parts of the two costs, by any sharing rule.
+// The parts of the two costs, by any sharing rule. They are worked out in tables as long as the longest roster, on the stack: the library uses no heap.
 ghost use Rattle.std.specs.Prelude.{◌≡◌, ℕ, ◌+◌, ◌<◌, ◌≤◌, map, length, pos, ◌-ℤ◌, ◌≤ℤ◌, sum_by, ◌≢◌, unsigned_abs};
 ghost use Rattle.integers.specs.Totals.{total_of};
 ghost use Rattle.roster.specs.Records.{arranged};

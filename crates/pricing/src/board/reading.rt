@@ -17,6 +17,7 @@ fn average_of(intervals: [Option<Interval>; INTERVALS]) -> Option<u32>
         return None;
     };
     let sum = a.both_prices() + b.both_prices() + c.both_prices() + d.both_prices();
+    // Proved to fit: `try_from` would bring an error that cannot come.
     Some(((sum + 2) / 4) as u32)
 }
 
