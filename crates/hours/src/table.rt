@@ -58,10 +58,11 @@ fn write_line<W: Write, N: Display + Drop>(
     cells: [i64; 10],
 ) -> Result<(), Stop> {
     write!(out, "  {name:>5}")?;
+    let blank = "";
     for (cents, column) in cells.iter().zip(&COLUMNS) {
         let amount = Dollars::from(*cents);
-        let width = column.len().max(WIDTH);
-        write!(out, " {amount:>width$}")?;
+        let gap = column.len().max(WIDTH).saturating_sub(amount.width());
+        write!(out, " {blank:gap$}{amount}")?;
     }
     writeln!(out)?;
     Ok(())

@@ -59,6 +59,35 @@ large_written number large fits =
     let few = length-decimal-le 18 (number / 1000) (omega arith) (omega arith) (omega arith) in
     more_groups 6 number large ∙ sym (λ j. room_unused 6 (number / 1000) (omega arith) few j ++ (codes "," ++ three_written number j))
 
+-- How long a number of one, two or three digits is, and any other.
+length-digits : (number : ℕ) → 10 ≤ number → number < 2 ^ 64 → length (decimal number) ≡ length (decimal (number / 10)) + 1
+length-digits number some fits = ap length (decimal_step number some fits) ∙ length-append (decimal (number / 10)) ((48 + number % 10) ∷ [])
+
+pub length-one_digit : (number : ℕ) → number < 10 → length (grouped_by most_groups number) ≡ 1
+length-one_digit number small = ap length (small_written number (omega arith) ∙ decimal_digit number small)
+
+pub length-two_digits : (number : ℕ) → 10 ≤ number → number < 100 → length (grouped_by most_groups number) ≡ 2
+length-two_digits number some small =
+    omega (arith, ap length (small_written number (omega arith)), length-digits number some (omega arith), ap length (decimal_digit (number / 10) (omega arith)))
+
+pub length-three_digits : (number : ℕ) → 100 ≤ number → number < 1000 → length (grouped_by most_groups number) ≡ 3
+length-three_digits number some small =
+    omega (arith, ap length (small_written number small), length-digits number (omega arith) (omega arith), length-digits (number / 10) (omega arith) (omega arith), ap length (decimal_digit (number / 10 / 10) (omega arith)))
+
+pub length-more_groups : (number : ℕ) → 1000 ≤ number → number < 2 ^ 64 → length (grouped_by most_groups number) ≡ length (grouped_by most_groups (number / 1000)) + 4
+length-more_groups number large fits =
+    omega (arith, ap length (large_written number large fits), length-append (grouped_by most_groups (number / 1000)) (codes "," ++ zero_padded 3 (number % 1000)), ap length (three_written number), ap length (three_listed number))
+
+-- No number is longer than its groups, each with a comma.
+pub length-groups-le : (groups number : ℕ) → number < 2 ^ 64 → length (grouped_by groups number) ≤ 4 * groups
+unfolding grouped_by
+length-groups-le zero number fits = omega arith
+length-groups-le (suc groups) number fits =
+    ⊎_elim
+    (λ small. omega (arith, ap length (one_group groups number small), length-decimal-le 3 number (lit< tt) small fits))
+    (λ large. omega (arith, ap length (more_groups groups number large), length-append (grouped_by groups (number / 1000)) (codes "," ++ three_digits number), ap length (three_listed number), length-groups-le groups (number / 1000) (omega arith)))
+    (cases_lt number 1000)
+
 -- The digits of a number hold no comma.
 abbrev no_comma : ℕ → Bool
 no_comma byte = not (eqb byte 44)

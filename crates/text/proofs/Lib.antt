@@ -1,4 +1,3 @@
 mod Groups
-mod Lines
 mod Signs
 mod Zeros

@@ -1,15 +1,14 @@
 // Money and quantities as an analyst reads them, from whole cents and whole tenths of a MW.
 //
-// `Dollars` and `Megawatts` promise the bytes that they write, for every number and under every width and precision, and `groups_lose_nothing` that the commas leave every digit in its place.
+// `Dollars` and `Megawatts` promise the bytes that they write, for every number,
+// and `groups_lose_nothing` that the commas leave every digit in its place.
 #![tactic(auto)]
 
-ghost use Rattle.std.specs.Fmt.{DisplaysOnOk, DisplaysStyledOnOk, formatter_spec, styled_text};
-ghost use Rattle.std.specs.Option.{option_map};
-ghost use Rattle.std.specs.Prelude.{◌≡◌, pos, Some};
+ghost use Rattle.std.specs.Prelude.{◌≡◌, ◌*◌, ◌≤◌, length, pos, Some};
 ghost use Rattle.text.specs.Texts.{GroupsLoseNothing, grouped_by, most_groups, dollars_text, megawatts_text};
 
 use std::fmt;
-use std::fmt::{InlineText, Write};
+use std::fmt::Write;
 
 // An amount in cents, as dollars: -$4,235.00.
 #[derive(Clone, Copy)]
@@ -21,6 +20,17 @@ pub struct Dollars {
 #[derive(Clone, Copy)]
 pub struct Megawatts {
     pub tenths: u32,
+}
+
+impl Dollars {
+    // How many characters are written of it, for a table with columns.
+    pub fn width(self) -> usize
+        ensures { result ≡ length (dollars_text self.cents) }
+    {
+        let whole = Grouped(self.cents.unsigned_abs() / 100);
+        let sign = if self.cents < 0 { "-$" } else { "$" };
+        sign.len() + whole.width() + ".00".len()
+    }
 }
 
 // An amount, in cents.
@@ -54,6 +64,21 @@ impl From<u32> for Megawatts {
 #[derive(Clone, Copy)]
 struct Grouped(u64);
 
+impl Grouped {
+    // How many characters are written of it.
+    fn width(self) -> usize
+        ensures value { result ≡ length (grouped_by most_groups self.0) }
+        ensures bound { result ≤ 4 * most_groups }
+    {
+        match self.0 {
+            0..10 => 1,
+            10..100 => 2,
+            100..1_000 => 3,
+            _ => Grouped(self.0 / 1_000).width() + 4,
+        }
+    }
+}
+
 impl fmt::Display for Grouped {
     ghost output = { λ whole. Some (grouped_by most_groups whole.0) };
 
@@ -69,43 +94,25 @@ impl fmt::Display for Grouped {
     }
 }
 
-// The length of the longest text, that of the least amount.
-const LONGEST: usize = "-$92,233,720,368,547,758.08".len();
-
-// Writes a text under the formatter's width and precision, as a `&str` is written.
-fn pad<W: fmt::Write, D: fmt::Display + Drop>(f: &mut fmt::Formatter<W>, text: D) -> fmt::Result
-    ensures writes { DisplaysOnOk W.write_str_gives f.old result (D.output text) f.new }
-    ensures styled { DisplaysStyledOnOk W.write_str_gives f.old result
-        (option_map (styled_text (formatter_spec f.old)) (D.output text)) f.new }
-{
-    let mut line = InlineText::<LONGEST>::new();
-    write!(line, "{text}")?;
-    f.pad(line.as_str())
-}
-
 impl fmt::Display for Dollars {
     ghost output = { λ amount. Some (dollars_text amount.cents) };
-
-    ghost styled_output = { λ amount spec. Some (styled_text spec (dollars_text amount.cents)) };
 
     fn fmt<W: fmt::Write>(&self, f: &mut fmt::Formatter<W>) -> fmt::Result {
         let sign = if self.cents < 0 { "-" } else { "" };
         let size = self.cents.unsigned_abs();
         let whole = Grouped(size / 100);
         let cents = size % 100;
-        pad(f, format_args!("{sign}${whole}.{cents:02}"))
+        write!(f, "{sign}${whole}.{cents:02}")
     }
 }
 
 impl fmt::Display for Megawatts {
     ghost output = { λ quantity. Some (megawatts_text quantity.tenths) };
 
-    ghost styled_output = { λ quantity spec. Some (styled_text spec (megawatts_text quantity.tenths)) };
-
     fn fmt<W: fmt::Write>(&self, f: &mut fmt::Formatter<W>) -> fmt::Result {
         let whole = Grouped(u64::from(self.tenths / 10));
         let tenths = self.tenths % 10;
-        pad(f, format_args!("{whole}.{tenths} MW"))
+        write!(f, "{whole}.{tenths} MW")
     }
 }
 

@@ -7,8 +7,8 @@ use Rattle.text.proofs.DollarsDisplay.fmt.Goals.{then-self-lt0, else-self-lt0}
 use Rattle.text.proofs.DollarsDisplay.fmt.Goals as goal
 
 -- The parts that are put together are the text of the amount.
-whole : (g : _) (c : goal.After-pad g) → c.if-self-lt0.sign.now ++ (codes "$" ++ (grouped_by most_groups (c.unsigned_abs-size.result / 100) ++ (codes "." ++ styled_decimal c.laid_out.result (c.unsigned_abs-size.result % 100)))) ≡ dollars_text c.args.self.now.cents
-whole g c =
+pub returns-clause-writes : goal.returns-clause-writes
+returns-clause-writes g c =
     let cents = c.args.self.now.cents in
     let same : to_z w64 (of_z w64 cents) ≡ cents = search rules in
     let size : c.unsigned_abs-size.result ≡ nat_abs cents = c.unsigned_abs-size.ensures.value ∙ ap nat_abs same in
@@ -16,10 +16,5 @@ whole g c =
       | then-self-lt0 w ↦ let below : is_negative cents ≡ true = rw same at w.if-self-lt0.true in ap (λ r. r.now) w.sign-is ∙ rw below
       | else-self-lt0 w ↦ let not : is_negative cents ≡ false = rw same at w.if-self-lt0.false in ap (λ r. r.now) w.sign-is ∙ rw not
     ] in
-    rw (sign, size, c.laid_out.ensures) (amount_written cents)
-
-pub returns-clause-writes : goal.returns-clause-writes
-returns-clause-writes g c = rw (whole g c) at c.pad.ensures.writes
-
-pub returns-clause-styled : goal.returns-clause-styled
-returns-clause-styled g c = rw (whole g c) at c.pad.ensures.styled
+    let whole : c.if-self-lt0.sign.now ++ (codes "$" ++ (grouped_by most_groups (c.unsigned_abs-size.result / 100) ++ (codes "." ++ styled_decimal c.laid_out.result (c.unsigned_abs-size.result % 100)))) ≡ dollars_text cents = rw (sign, size, c.laid_out.ensures) (amount_written cents) in
+    rw whole at c.write.ensures.writes
