@@ -73,8 +73,8 @@ total_plus (part ∷ parts) more =
     omega (
       arith,
       ints,
-      ap total_of (map_tail f (λ k. f (suc k)) n (pos 0) (λ k h. refl)),
-      sum_tail more (λ k. more (suc k)) n (λ k h. refl),
+      ap total_of (map_tail f (λ k. f (suc k)) 0 n (λ k h. refl)),
+      sum_tail more (λ k. more (suc k)) 0 n (λ k h. refl),
       total_plus parts (λ k. more (suc k)),
       sum_by-cons more 0 (range_with_len 1 n),
     )

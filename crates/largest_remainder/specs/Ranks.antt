@@ -1,9 +1,8 @@
 -- How many members have fewer members before them than units are missing: just as many as units.
 -- Proofs and nothing to believe: an implementation can cite its laws only from specs/.
-use Rattle.std.specs.Prelude.{◌≡◌, ℕ, suc, ◌+◌, ◌-◌, ◌<◌, ◌≤◌, Bool, if◌then◌else◌, List, [], ◌∷◌, map, length, take, drop, sum_by, sum, count_by, nat_le, nat_lt, slice_index}
+use Rattle.std.specs.Prelude.{◌≡◌, ℕ, zero, suc, refl, ◌+◌, ◌-◌, ◌<◌, ◌≤◌, Bool, if◌then◌else◌, List, [], ◌∷◌, map, length, take, drop, sum_by, sum, count_by, nat_le, nat_lt, slice_index}
 use Rattle.std.proofs.Common.{sym, ap, ◌∙◌, ⊎_elim, arith}
 use Rattle.std.specs.List.{range_with_len}
-use Rattle.std.proofs.lemmas.List.FromFn.{fill_by_all, get_or-map-range_with_len, length-map-range_with_len}
 use Rattle.std.proofs.lemmas.List.Sums.{sum-map, sum_by-cons, sum_by-take-drop, sum_by-drop_more, sum_by-le-sum_by, count_by-le-length}
 use Rattle.std.proofs.lemmas.Bool.{cases_lt}
 use Rattle.std.proofs.lemmas.Bool.Decides.{nat_tests}
@@ -48,12 +47,14 @@ ahead_next x xs k =
     let d : drop (suc k + 1) (x ∷ xs) ≡ drop (k + 1) xs = ap (λ i. drop i (x ∷ xs)) e in
     omega (arith, sum_by-cons (λ y. one_if (nat_le (slice_index xs k) y)) x (take k xs), ap (count_by (nat_lt (slice_index xs k))) d)
 
--- The places after the first, counted from 0.
-pub map_tail : {X : Type 0} (f g : ℕ → X) (n : ℕ) (d : X) → ((k : ℕ) → k < n → f (suc k) ≡ g k) → map f (range_with_len 1 n) ≡ map g (range_with_len 0 n)
-map_tail f g n d same = fill_by_all g (map f (range_with_len 1 n)) n d (length-map-range_with_len f 1 n) (λ k h. get_or-map-range_with_len f 1 n k (suc k) d h (omega arith) ∙ same k h)
+-- The places after one more, counted from the one before.
+pub map_tail : {X : Type 0} (f g : ℕ → X) (a n : ℕ) → ((k : ℕ) → k < a + n → f (suc k) ≡ g k) → map f (range_with_len (a + 1) n) ≡ map g (range_with_len a n)
+map_tail f g a zero same = refl
+map_tail f g a (suc n) same =
+    let e : a + 1 ≡ suc a = omega arith in (λ j. (ap f e ∙ same a (omega arith)) j ∷ map_tail f g (a + 1) n (λ k h. same k (omega arith)) j)
 
-pub sum_tail : (f g : ℕ → ℕ) (n : ℕ) → ((k : ℕ) → k < n → f (suc k) ≡ g k) → sum_by f (range_with_len 1 n) ≡ sum_by g (range_with_len 0 n)
-sum_tail f g n same = sym (sum-map f (range_with_len 1 n)) ∙ ap sum (map_tail f g n 0 same) ∙ sum-map g (range_with_len 0 n)
+pub sum_tail : (f g : ℕ → ℕ) (a n : ℕ) → ((k : ℕ) → k < a + n → f (suc k) ≡ g k) → sum_by f (range_with_len (a + 1) n) ≡ sum_by g (range_with_len a n)
+sum_tail f g a n same = sym (sum-map f (range_with_len (a + 1) n)) ∙ ap sum (map_tail f g a n same) ∙ sum-map g (range_with_len a n)
 
 -- Whether a member gets a unit, with one more member in front who has x, where `all` of the others have more than x and `ahead` come before it: one
 -- unit less is there for the others where the one in front gets one, else as many.
@@ -73,11 +74,11 @@ units_add_up units (x ∷ xs) few =
     let ahead = λ (k : ℕ). ap (λ a. one_if (nat_lt a units)) (ahead_next x xs k) in
     ⊎_elim
     (λ less.
-    let rest = sum_tail (unit_for units (x ∷ xs)) (unit_for (units - 1) xs) n (λ k h. ahead k ∙ (next k h).0 less) in
+    let rest = sum_tail (unit_for units (x ∷ xs)) (unit_for (units - 1) xs) 0 n (λ k h. ahead k ∙ (next k (omega arith)).0 less) in
     let here : unit_for units (x ∷ xs) 0 ≡ 1 = grind (arith, nat_tests) in
     omega (arith, units_add_up (units - 1) xs (omega arith)))
     (λ more.
-    let rest = sum_tail (unit_for units (x ∷ xs)) (unit_for units xs) n (λ k h. ahead k ∙ (next k h).1 more) in
+    let rest = sum_tail (unit_for units (x ∷ xs)) (unit_for units xs) 0 n (λ k h. ahead k ∙ (next k (omega arith)).1 more) in
     let here : unit_for units (x ∷ xs) 0 ≡ 0 = grind (arith, nat_tests) in
     omega (arith, units_add_up units xs (omega (arith, count_by-le-length (nat_lt x) xs))))
     (cases_lt all units)

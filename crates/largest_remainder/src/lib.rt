@@ -4,11 +4,10 @@
 // `LargestRemainder` promises the sharing rule's contract with the parts of `largest_remainder` in specs/Largest.antt, and the three laws of them.
 #![tactic(auto)]
 
-ghost use Rattle.std.specs.Prelude.{◌≡◌, ℕ, ◌+◌, ◌*◌, ◌<◌, ◌≤◌, map, length, pos, ◌+ℤ◌, count_by, nat_le, slice_index, unsigned_abs};
+ghost use Rattle.std.specs.Prelude.{◌≡◌, ℕ, ◌*◌, ◌<◌, ◌≤◌, length, pos, count_by, nat_le, slice_index, unsigned_abs};
 ghost use Rattle.integers.specs.Totals.{size_of};
 ghost use Rattle.largest_remainder.specs.Largest.{floor_of, remainder_of, floors, all_remainders, missing_units, ahead_of, unit_for, with_units, largest_remainder};
 ghost use Rattle.sharing.specs.Shares.{most_members, most_sizes, most_total};
-ghost use Rattle.std.specs.List.{range_with_len};
 ghost use Rattle.largest_remainder.specs.Laws.{largest_fair};
 
 use refusals::Refusal;
@@ -70,7 +69,7 @@ fn divide(division: &Division, weight: i64) -> (i64, u32)
     ensures remainder { result.1 ≡ remainder_of division.now.total division.now.weight_sum weight }
 {
     let product = division.total * weight;
-    // The remainder is proved to fit: `try_from` would bring an error that cannot come.
+    // The remainder is below the weight sum, so it fits.
     (
         product.div_euclid(division.weight_sum),
         product.rem_euclid(division.weight_sum) as u32,

@@ -1,10 +1,9 @@
 -- The sizes of what the rules work with, from the range.
-use Rattle.std.proofs.Common.{ℕ, ◌*◌, ◌<◌, ◌≤◌, length, take, ℤ, pos, ◌*ℤ◌, unsigned_abs, mul-le-mul, arith, w64, FitsSigned}
+use Rattle.std.proofs.Common.{ℕ, ◌*◌, ◌≤◌, take, ℤ, ◌*ℤ◌, unsigned_abs, mul-le-mul, arith, w64, FitsSigned}
 use Rattle.std.proofs.lemmas.Int.{ints, unsigned_abs-mul}
-use Rattle.std.proofs.lemmas.List.Sums.{get_or-le-sum_by}
 use Rattle.integers.specs.Totals.{total_of}
 use Rattle.integers.proofs.Totals.{front_at_most_size}
-use Rattle.sharing.specs.Shares.{nth, most_total, most_sizes}
+use Rattle.sharing.specs.Shares.{most_total, most_sizes}
 use Rattle.sharing.specs.declared.Division.{Division}
 
 -- The product of a total and a weight, or a sum of weights.
@@ -19,6 +18,3 @@ module _ (division : Division) where
   -- The weights of any front add up to little enough.
   pub front_small : (k : ℕ) → unsigned_abs (total_of (take k division.weights.now)) ≤ most_sizes
   front_small k = omega (arith, front_at_most_size division.weights.now k, division.in_range.small_sizes)
-
-  pub one_small : (k : ℕ) → k < length division.weights.now → unsigned_abs (nth division.weights.now k) ≤ most_sizes
-  one_small k inside = omega (arith, get_or-le-sum_by unsigned_abs division.weights.now k (pos 0) inside, division.in_range.small_sizes)

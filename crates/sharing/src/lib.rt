@@ -2,7 +2,7 @@
 //
 // Every rule promises one list of parts for each total and weights in its range, and three laws of them: the parts add up to the total, each is less
 // than one unit from its exact share, and a weight of 0 gets 0. It refuses just what is out of its range, and then leaves the caller's parts alone.
-// `weight_sum` is the range check that the rules share.
+// `weight_sum` is the range check that the rules share, and a `Division` holds what has passed it.
 #![tactic(auto)]
 
 ghost use Rattle.integers.specs.Totals.{total_of};
