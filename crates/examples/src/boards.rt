@@ -101,10 +101,10 @@ fn an_interval_is_refused_by_its_place_and_then_by_its_sum(rt: HostRuntime) -> R
     Ok(())
 }
 
+// The loop counts, since the market's own number is what is asked for.
 #[test]
 fn eight_markets_clear_in_turn(rt: HostRuntime) -> Result<(), Fail> {
     let mut board = Board::new();
-    // The market's own number is what is asked for.
     for market in 0..8 {
         assert_eq!(rt; board.clear(1_000_001), Err(Refusal::PriceAboveLimit));
         assert_eq!(rt; board.cleared(), market);

@@ -324,10 +324,10 @@ fn a_filing_call_changes_one_number_of_the_qse_named(rt: HostRuntime) -> Result<
     file_all(&rt, &board, &mut roster, FAILURES)
 }
 
+// The loop counts, since the QSE's own number is what is filed.
 #[test]
 fn sixty_four_enrol_and_no_more(rt: HostRuntime) {
     let mut roster = Roster::new();
-    // The QSE's own number is what is filed.
     for qse in 1..65 {
         assert_eq!(rt; roster.enrol(qse, 3_125, 3_125), Ok(()));
     }
