@@ -18,10 +18,13 @@ fn later_cents(prices: &[u32], awards: &[u32; MOST_MARKETS]) -> u64
     requires few { length prices.now ≤ most_markets }
     ensures { result ≡ sum_by (λ market. cents_of (slice_index prices.now market) (slice_index awards.now market)) (range_with_len 1 (length prices.now - 1)) }
 {
-    prices
+    // A pattern and a range, since `skip` tests at each market whether the first is passed.
+    let [_, later_prices @ ..] = prices else {
+        return 0;
+    };
+    later_prices
         .iter()
-        .zip(awards)
-        .skip(1)
+        .zip(&awards[1..])
         .map(|(price, award)| cents(*price, *award))
         .sum()
 }
