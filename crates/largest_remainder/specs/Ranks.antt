@@ -40,6 +40,10 @@ module _ (x : ℕ) (xs : List ℕ) (k : ℕ) (inside : k < length xs) where
       let later = sum_by-le-sum_by (λ y. one_if (nat_lt x y)) (λ y. one_if (nat_lt r y)) (drop (k + 1) xs) (λ y. (above_to x r less y).1) in
       grind (arith, nat_tests, count_at (nat_lt x) xs k inside)
 
+-- Before a member in front of all others come those who have more.
+ahead_first : (x : ℕ) (xs : List ℕ) → ahead_of (x ∷ xs) 0 ≡ count_by (nat_lt x) xs
+ahead_first x xs = omega arith
+
 -- One more member in front comes before those who have at most as much.
 ahead_next : (x : ℕ) (xs : List ℕ) (k : ℕ) → ahead_of (x ∷ xs) (suc k) ≡ one_if (nat_le (slice_index xs k) x) + ahead_of xs k
 ahead_next x xs k =
@@ -53,8 +57,16 @@ map_tail f g a zero same = refl
 map_tail f g a (suc n) same =
     let e : a + 1 ≡ suc a = omega arith in (λ j. (ap f e ∙ same a (omega arith)) j ∷ map_tail f g (a + 1) n (λ k h. same k (omega arith)) j)
 
+-- Sums of what is equal at each place.
+sum_same : (f g : ℕ → ℕ) (a n : ℕ) → ((k : ℕ) → k < a + n → f k ≡ g k) → sum_by f (range_with_len a n) ≡ sum_by g (range_with_len a n)
+sum_same f g a zero same = refl
+sum_same f g a (suc n) same =
+    omega (arith, sum_by-cons f a (range_with_len (a + 1) n), sum_by-cons g a (range_with_len (a + 1) n), same a (omega arith), sum_same f g (a + 1) n (λ k h. same k (omega arith)))
+
 pub sum_tail : (f g : ℕ → ℕ) (a n : ℕ) → ((k : ℕ) → k < a + n → f (suc k) ≡ g k) → sum_by f (range_with_len (a + 1) n) ≡ sum_by g (range_with_len a n)
-sum_tail f g a n same = sym (sum-map f (range_with_len (a + 1) n)) ∙ ap sum (map_tail f g a n same) ∙ sum-map g (range_with_len a n)
+sum_tail f g a n same =
+    let next = λ (k : ℕ). f (suc k) in
+    sym (sum-map f (range_with_len (a + 1) n)) ∙ ap sum (map_tail f next a n (λ k h. refl)) ∙ sum-map next (range_with_len a n) ∙ sum_same next g a n same
 
 -- Whether a member gets a unit, with one more member in front who has x, where `all` of the others have more than x and `ahead` come before it: one
 -- unit less is there for the others where the one in front gets one, else as many.
@@ -75,10 +87,10 @@ units_add_up units (x ∷ xs) few =
     ⊎_elim
     (λ less.
     let rest = sum_tail (unit_for units (x ∷ xs)) (unit_for (units - 1) xs) 0 n (λ k h. ahead k ∙ (next k (omega arith)).0 less) in
-    let here : unit_for units (x ∷ xs) 0 ≡ 1 = grind (arith, nat_tests) in
+    let here : unit_for units (x ∷ xs) 0 ≡ 1 = grind (arith, nat_tests, ahead_first x xs) in
     omega (arith, units_add_up (units - 1) xs (omega arith)))
     (λ more.
     let rest = sum_tail (unit_for units (x ∷ xs)) (unit_for units xs) 0 n (λ k h. ahead k ∙ (next k (omega arith)).1 more) in
-    let here : unit_for units (x ∷ xs) 0 ≡ 0 = grind (arith, nat_tests) in
+    let here : unit_for units (x ∷ xs) 0 ≡ 0 = grind (arith, nat_tests, ahead_first x xs) in
     omega (arith, units_add_up units xs (omega (arith, count_by-le-length (nat_lt x) xs))))
     (cases_lt all units)

@@ -30,6 +30,7 @@ impl From<Side> for usize {
     ghost from_gives = { λ side number. number ≡ number_of_side side };
 
     fn from(side: Side) -> usize {
+        // A cast, here and for a kind, since an enum has no other way to its number.
         side as usize
     }
 }

@@ -16,16 +16,18 @@ use Rattle.running.specs.Running.{rounded, first_parts, running}
 
 -- Rounding: less than one half away, either way, and exact at a multiple.
 module _ (W : ℤ) (positive : pos 1 ≤ℤ W) where
+  twice_positive : pos 1 ≤ℤ (pos 2 *ℤ W)
+  twice_positive = omega (arith, ints)
+
   rounded_near : (n : ℤ) → ((pos 2 *ℤ (W *ℤ rounded W n)) ≤ℤ (pos 2 *ℤ n +ℤ W)) × ((pos 2 *ℤ n +ℤ W) <ℤ (pos 2 *ℤ (W *ℤ rounded W n) +ℤ pos 2 *ℤ W))
   unfolding rounded
   rounded_near n =
-      let twice : pos 1 ≤ℤ (pos 2 *ℤ W) = omega (arith, ints) in
-      (rw mul_assoc at (floor_low (pos 2 *ℤ n +ℤ W) (pos 2 *ℤ W) twice), rw mul_assoc at (floor_high (pos 2 *ℤ n +ℤ W) (pos 2 *ℤ W) twice))
+      (rw mul_assoc at (floor_low (pos 2 *ℤ n +ℤ W) (pos 2 *ℤ W) twice_positive), rw mul_assoc at (floor_high (pos 2 *ℤ n +ℤ W) (pos 2 *ℤ W) twice_positive))
 
   rounded_whole : (t : ℤ) → rounded W (t *ℤ W) ≡ t
   unfolding rounded
   rounded_whole t =
-      floor_is (pos 2 *ℤ (t *ℤ W) +ℤ W) (pos 2 *ℤ W) t (omega (arith, ints))
+      floor_is (pos 2 *ℤ (t *ℤ W) +ℤ W) (pos 2 *ℤ W) t twice_positive
       (rw mul_assoc (omega (arith, ints, *ℤ_comm t W)))
       (rw mul_assoc (omega (arith, ints, *ℤ_comm t W)))
 

@@ -111,7 +111,8 @@ impl Roster {
         })
     }
 
-    // A QSE's arranged quantity is replaced, day-ahead on side 0 and later on side 1.
+    // A QSE's arranged quantity is replaced, day-ahead on side 0 and later on side 1. Any number may come in, so the call takes no `Side`: one that names
+    // none is refused, and after the QSE.
     pub fn arrange(&mut self, qse: u16, side: usize, tenths: u32) -> Result<(), Refusal>
         ensures { Arranges self.old qse side tenths result self.new }
     {
@@ -121,7 +122,7 @@ impl Roster {
         )
     }
 
-    // A QSE's failed quantity is replaced by kind 0, and its infeasible quantity by kind 1.
+    // A QSE's failed quantity is replaced by kind 0, and its infeasible quantity by kind 1. Any number may come in here too.
     pub fn fail(&mut self, qse: u16, kind: usize, tenths: u32) -> Result<(), Refusal>
         ensures { Fails self.old qse kind tenths result self.new }
     {
