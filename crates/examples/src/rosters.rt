@@ -6,7 +6,7 @@ use std::process::Abort;
 use std::test::Fail;
 
 // A board on which two markets have cleared.
-fn cleared() -> Result<Board, Refusal> {
+pub(crate) fn cleared() -> Result<Board, Refusal> {
     let mut board = Board::new();
     board.clear(1_000)?;
     board.clear(3_000)?;

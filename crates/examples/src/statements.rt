@@ -110,7 +110,7 @@ fn statements_are_worked_out_as_by_hand(rt: HostRuntime) -> Result<(), Fail> {
     for (price, later, failed, infeasible, seven, nine) in WORKED {
         let mut board = Board::new();
         board.clear(1_000)?;
-        let mut roster = enrolled()?;
+        let mut roster = rosters::enrolled()?;
         if let Some(price) = price {
             board.clear(price)?;
             roster.award(&board, 7, 1, later)?;
@@ -128,7 +128,7 @@ fn statements_are_worked_out_as_by_hand(rt: HostRuntime) -> Result<(), Fail> {
 fn a_net_cost_with_nothing_bought_is_refused(rt: HostRuntime) -> Result<(), Fail> {
     let mut board = Board::new();
     board.clear(1_000)?;
-    let mut roster = enrolled()?;
+    let mut roster = rosters::enrolled()?;
     roster.award(&board, 9, 0, 100)?;
     roster.fail(9, 0, 101)?;
     assert_eq!(rt; refusal_of(&board, &roster), Some(Refusal::NothingBought));
@@ -172,9 +172,7 @@ fn the_rules_leave_the_cents_to_different_members(rt: HostRuntime) -> Result<(),
 // QSE 7 arranges more than its part of the requirement, so that its open quantity is below 0; the average is the top price.
 #[test]
 fn a_negative_open_quantity_is_paid(rt: HostRuntime) -> Result<(), Fail> {
-    let mut board = Board::new();
-    board.clear(1_000)?;
-    board.clear(3_000)?;
+    let mut board = rosters::cleared()?;
     file_intervals(
         &mut board,
         [Interval {
@@ -182,9 +180,7 @@ fn a_negative_open_quantity_is_paid(rt: HostRuntime) -> Result<(), Fail> {
             reliability: 400,
         }; 4],
     )?;
-    let mut roster = Roster::new();
-    roster.enrol(7, 60, 60)?;
-    roster.enrol(9, 40, 40)?;
+    let mut roster = rosters::enrolled()?;
     roster.enrol(3, 33, 10)?;
     roster.award(&board, 7, 1, 20)?;
     roster.award(&board, 9, 0, 100)?;

@@ -22,7 +22,10 @@ const MEGAWATTS: [(u32, &str); 4] = [
 #[test]
 fn amounts_are_written_in_dollars(rt: HostRuntime) -> Result<(), Fail> {
     for (cents, expected) in DOLLARS {
-        assert_eq!(rt; Dollars { cents }.to_string(rt.alloc())?.as_str(), expected);
+        assert_eq!(rt;
+            Dollars::from(cents).to_string(rt.alloc())?.as_str(),
+            expected
+        );
     }
     Ok(())
 }
@@ -31,7 +34,7 @@ fn amounts_are_written_in_dollars(rt: HostRuntime) -> Result<(), Fail> {
 fn quantities_are_written_in_megawatts(rt: HostRuntime) -> Result<(), Fail> {
     for (tenths, expected) in MEGAWATTS {
         assert_eq!(rt;
-            Megawatts { tenths }.to_string(rt.alloc())?.as_str(),
+            Megawatts::from(tenths).to_string(rt.alloc())?.as_str(),
             expected
         );
     }

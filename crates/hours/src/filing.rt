@@ -13,8 +13,8 @@ pub enum Filing {
     Clear(u32),
     // a market and its price
     Correct(usize, u32),
-    // an interval and its two prices
-    Interval(usize, u32, u32),
+    // which interval, and its two prices
+    Interval(usize, Interval),
     // a QSE, its load and its day-ahead obligation
     Enrol(u16, u32, u32),
     // a QSE, a market and a quantity
@@ -50,10 +50,34 @@ pub const UNEVEN_HOUR: &[Filing] = &[
     Filing::Enrol(12, 100, 100),
     Filing::Clear(1_003),
     Filing::Clear(3_333),
-    Filing::Interval(0, 3_000, 400),
-    Filing::Interval(1, 3_000, 400),
-    Filing::Interval(2, 3_100, 300),
-    Filing::Interval(3, 3_000, 401),
+    Filing::Interval(
+        0,
+        Interval {
+            online: 3_000,
+            reliability: 400,
+        },
+    ),
+    Filing::Interval(
+        1,
+        Interval {
+            online: 3_000,
+            reliability: 400,
+        },
+    ),
+    Filing::Interval(
+        2,
+        Interval {
+            online: 3_100,
+            reliability: 300,
+        },
+    ),
+    Filing::Interval(
+        3,
+        Interval {
+            online: 3_000,
+            reliability: 401,
+        },
+    ),
     Filing::Award(9, 0, 200),
     Filing::Award(12, 1, 50),
     Filing::Arrange(7, Side::DayAhead, 40),
@@ -67,13 +91,7 @@ impl Filing {
         match self {
             Filing::Clear(price) => board.clear(price),
             Filing::Correct(market, price) => board.correct(market, price),
-            Filing::Interval(which, online, reliability) => board.interval(
-                which,
-                Interval {
-                    online,
-                    reliability,
-                },
-            ),
+            Filing::Interval(which, interval) => board.interval(which, interval),
             Filing::Enrol(qse, load, obligation) => roster.enrol(qse, load, obligation),
             Filing::Award(qse, market, tenths) => roster.award(board, qse, market, tenths),
             Filing::Arrange(qse, side, tenths) => roster.arrange(qse, usize::from(side), tenths),
@@ -93,9 +111,9 @@ impl fmt::Display for Filing {
                 let price = Dollars::from(price);
                 write!(f, "market {market} is corrected to {price} per MW")
             }
-            Filing::Interval(which, online, reliability) => {
-                let online = Dollars::from(online);
-                let reliability = Dollars::from(reliability);
+            Filing::Interval(which, interval) => {
+                let online = Dollars::from(interval.online);
+                let reliability = Dollars::from(interval.reliability);
                 write!(
                     f,
                     "interval {which}: on-line {online}, reliability {reliability} per MW"

@@ -13,9 +13,10 @@ stop_text (Refused refusal) = Some (refusal_text refusal)
 stop_text TooLarge = Some (codes "an amount is too large to print")
 stop_text (Output error) = None
 
--- The printing ended so, with these bytes in the output: what stopped it is written after them in a line of its own, and an error of the output is the answer.
+-- The printing ended so, with these bytes in the output: what stopped it is written after them in a line of its own; where the output had failed, nothing is,
+-- and its error is the answer.
 abbrev pub Ends : Result (Unit {0}) Stop → Option (List ℕ) → Option (List ℕ) → Result (Unit {0}) Error → Type 0
 Ends (Ok done) left after answer = OnOk answer (Keeps left after)
-Ends (Err (Output error)) left after answer = answer ≡ Err error
+Ends (Err (Output error)) left after answer = (answer ≡ Err error) × (after ≡ left)
 Ends (Err (Refused refusal)) left after answer = OnOk answer (IfSome (with_newline (stop_text (Refused refusal))) (Appends left after))
 Ends (Err TooLarge) left after answer = OnOk answer (IfSome (with_newline (stop_text TooLarge)) (Appends left after))

@@ -1,6 +1,7 @@
 // What the programs share: what can stop one while it prints, the sums that it shows, and how it ends.
 //
-// `finish` promises what is written after what was printed: nothing, or a line that says what stopped it; or that it answers the output's error.
+// `finish` promises what is written after what was printed: nothing, or a line that says what stopped it; or that it answers the output's error. That what
+// is held back is written out is only tested: no clause speaks of a flush.
 #![tactic(auto)]
 
 ghost use Rattle.integers.specs.Totals.{size_of, total_of};

@@ -5,7 +5,7 @@ ghost use Rattle.std.specs.Prelude.{◌≡◌, Some};
 use refusals::Refusal;
 use std::fmt;
 
-// The kind of a quantity that is not delivered. It is read like a side, and written out beside it: a form for both would be longer than either.
+// The kind of a quantity that is not delivered. It has the functions of a side over again: one form for both would be longer than the two.
 #[derive(Clone, Copy, PartialEq, Eq, Debug)]
 pub enum Kind {
     Failed,

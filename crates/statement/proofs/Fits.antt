@@ -8,9 +8,6 @@ fits z n h k = omega (arith, ints)
 pub size_plus : (x y : ℤ) (m n : ℕ) → unsigned_abs x ≤ m → unsigned_abs y ≤ n → unsigned_abs (x +ℤ y) ≤ m + n
 size_plus x y m n h k = omega (arith, ints)
 
-pub size_less : (x y : ℤ) (m n : ℕ) → unsigned_abs x ≤ m → unsigned_abs y ≤ n → unsigned_abs (x -ℤ y) ≤ m + n
-size_less x y m n h k = omega (arith, ints)
-
 -- One more number taken off what is minus a sum.
 pub less_more : (x z t next : ℤ) → x ≡ neg_ℤ t → next ≡ t +ℤ z → x -ℤ z ≡ neg_ℤ next
 less_more x z t next e f = omega (arith, ints)

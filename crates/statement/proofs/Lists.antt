@@ -80,14 +80,6 @@ pub sumBy_map : {X Y : Type 0} (g : Y → ℕ) (f : X → Y) (xs : List X) → s
 sumBy_map g f [] = refl
 sumBy_map g f (x ∷ xs) = sum_by-cons g (f x) (map f xs) ∙ ap (λ n. g (f x) + n) (sumBy_map g f xs) ∙ sym (sum_by-cons (λ x. g (f x)) x xs)
 
--- One more place.
-pub sumBy_counting_more : (f : ℕ → ℕ) (a n j : ℕ) → a + n ≡ j → sum_by f (range_with_len a (n + 1)) ≡ sum_by f (range_with_len a n) + f j
-sumBy_counting_more f a n j e = sym (sum-map f (range_with_len a (n + 1))) ∙ sum_by-map-range_with_len_more (λ x. x) f a n j e ∙ ap (λ m. m + f j) (sum-map f (range_with_len a n))
-
--- A loop's sum stays within what bounds the whole.
-pub sum_under : {X : Type 0} (f : X → ℕ) (xs : List X) (i : ℕ) (d : X) (most : ℕ) → i < length xs → sum_by f xs ≤ most → sum_by f (take i xs) + f (get_or xs i d) ≤ most
-sum_under f xs i d most inside small = omega (arith, sum_by_more f xs i d inside, sum_by-take-le f xs (i + 1))
-
 pub total_more : {X : Type 0} (f : X → ℤ) (xs : List X) (i : ℕ) (d : X) → i < length xs → total_of (map f (take (i + 1) xs)) ≡ total_of (map f (take i xs)) +ℤ f (get_or xs i d)
 total_more f xs i d inside = ap total_of (map_more f xs i d inside) ∙ total_push (map f (take i xs)) (f (get_or xs i d))
 
@@ -99,11 +91,3 @@ take-set-places f written k value room here before = take_more_set written k val
 -- Lists made place by place are the same where they are the same at each place.
 pub same_places : {X : Type 0} (f g : ℕ → X) (n : ℕ) → ((k : ℕ) → k < n → f k ≡ g k) → map f (range_with_len 0 n) ≡ map g (range_with_len 0 n)
 same_places f g n same = fill_by_all g (map f (range_with_len 0 n)) n (f 0) (length-map-range_with_len f 0 n) (λ k inside. get_or-map-range_with_len f 0 n k k (f 0) inside (omega arith) ∙ same k inside)
-
--- The zeros that a table begins with.
-pub zeros : {X : Type 0} (xs : List X) (n : ℕ) → length xs ≤ n → take (length xs) (replicate n (pos 0)) ≡ map (λ _. pos 0) xs
-zeros xs n short = take-replicate (length xs) n (pos 0) short ∙ each xs
-  where
-    each : {X : Type 0} (xs : List X) → replicate (length xs) (pos 0) ≡ map (λ _. pos 0) xs
-    each [] = refl
-    each (x ∷ xs) = ap (λ zs. pos 0 ∷ zs) (each xs)

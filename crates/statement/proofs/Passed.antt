@@ -81,9 +81,6 @@ pub test_of_err : {V : Type 0} (test : Option Refusal) (value : V) (refusal : Re
 test_of_err None value refusal h = absurd (grind arith)
 test_of_err (Some refusal') value refusal h = cc
 
-pub gives_ok : {V : Type 0} (test : Option Refusal) (value answer : V) → test ≡ None → answer ≡ value → Gives test value (Ok answer)
-gives_ok test value answer none same = subst (λ (o : Option Refusal). Gives o value (Ok answer)) (sym none) (ap Ok same)
-
 -- The numbers that were checked are those of the roster and the board.
 module _ (rules : Rules) (board : PlainBoard) (records : List Record) (costs : Costs) (quantities : Quantities) (cleared : 1 ≤ length board.prices)
     (ahead_is : costs.ahead ≡ day_ahead_cost board records) (net_is : costs.net ≡ net_cost rules.defaults board records) (right : Right quantities records) where

@@ -60,9 +60,6 @@ module _ (rules : Rules) (fair : (total : ℤ) (weights : List ℤ) → InRange 
   open_count : length (open_quantities rules.shares records) ≡ length records
   open_count = length-map-range_with_len _ 0 (length records)
 
-  pub charges_long : length (charges rules board records) ≡ length records
-  charges_long = parts_long rules.shares (day_ahead_cost board records) (map open_day_ahead records) records (length-map records open_day_ahead) charges_range fair
-
   pub charge_bound : (k : ℕ) → k < length records → unsigned_abs (nth (charges rules board records) k) ≤ 8000000000000000
   charge_bound k inside =
       omega (

@@ -1,11 +1,11 @@
 // The two costs that a statement shares, and the quantities that decide whether it can.
-ghost use Rattle.std.specs.Prelude.{◌≡◌, ℕ, ◌*◌, ◌<◌, ◌≤◌, not, ◌&&◌, [], ◌∷◌, map, length, pos, neg_ℤ, ◌==◌, int_lt, unsigned_abs};
+ghost use Rattle.std.specs.Prelude.{◌≡◌, ℕ, ◌<◌, ◌≤◌, not, ◌&&◌, [], ◌∷◌, map, length, pos, neg_ℤ, ◌==◌, int_lt};
 ghost use Rattle.integers.specs.Totals.{total_of};
 ghost use Rattle.refusals.specs.declared.Refusal.TheVariants.{NoLoad, NothingBought, NothingOpenDayAhead};
 ghost use Rattle.refusals.specs.Refused.{Gives, first_of};
 ghost use Rattle.roster.specs.Limits.{most_enrolled};
 ghost use Rattle.statement.specs.Amounts.{is_zero};
-ghost use Rattle.statement.specs.Laws.{Small, most_amount, own_sum, row_at};
+ghost use Rattle.statement.specs.Laws.{Small, own_sum, row_at};
 ghost use Rattle.statement.specs.Working.{Right};
 
 use crate::amounts::Row;
@@ -21,7 +21,7 @@ pub(crate) struct Costs {
 
 impl Costs {
     // What the rows' own amounts cost together.
-    pub fn of(rows: &[Row]) -> Costs
+    pub(crate) fn of(rows: &[Row]) -> Costs
         requires few { length rows.now ≤ most_enrolled }
         requires small { (k : ℕ) → k < length rows.now → Small (row_at rows.now k) }
         ensures ahead { result.ahead ≡ neg_ℤ (total_of (map (λ row. row.amounts.award) rows.now)) }
@@ -48,7 +48,7 @@ pub(crate) struct Quantities {
 }
 
 impl Quantities {
-    pub fn of(roster: &Roster) -> Quantities
+    pub(crate) fn of(roster: &Roster) -> Quantities
         ensures { Right result roster.now }
     {
         let totals = roster.totals();
@@ -65,7 +65,7 @@ impl Quantities {
     }
 
     // Refuses costs that nobody can bear.
-    pub fn check(&self, costs: Costs) -> Result<(), Refusal>
+    pub(crate) fn check(&self, costs: Costs) -> Result<(), Refusal>
         ensures { Gives (first_of ((not (is_zero costs.ahead) && (self.now.ahead == 0), NothingOpenDayAhead) ∷ (not (is_zero costs.net) && int_lt self.now.bought (pos 1), NothingBought) ∷ (not (is_zero costs.net) && (self.now.loads == 0), NoLoad) ∷ [])) tt result }
     {
         if costs.ahead != 0 && self.ahead == 0 {

@@ -24,8 +24,8 @@ pub(crate) struct Hour<'a> {
 }
 
 impl<'a> Hour<'a> {
-    // None before a market has cleared.
-    pub fn of(board: &'a Board, roster: &'a Roster) -> Result<Hour<'a>, Refusal>
+    // Refused before a market has cleared.
+    pub(crate) fn of(board: &'a Board, roster: &'a Roster) -> Result<Hour<'a>, Refusal>
         ensures { MatchResult result (λ hour. (hour.board.now ≡ board.now) × (hour.records.now ≡ roster.now)) (λ refusal. (length board.now.prices ≡ 0) × (refusal ≡ DayAheadNotCleared)) }
     {
         if board.prices().is_empty() {

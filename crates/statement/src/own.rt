@@ -73,6 +73,7 @@ impl Hour<'_> {
         requires { length rows.old ≡ length self.now.records.now }
         ensures { rows.new ≡ map (λ r. row_of (default_rules F.charge I.charge) self.now.board.now r (pos 0) (pos 0)) self.now.records.now }
     {
+        // By place, for the reason that shares.rt gives.
         for (place, row) in rows.iter_mut().enumerate() {
             *row = self.own_row::<F, I>(place);
         }

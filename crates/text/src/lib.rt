@@ -8,7 +8,6 @@ ghost use Rattle.std.specs.Prelude.{◌≡◌, ◌*◌, ◌≤◌, length, pos, 
 ghost use Rattle.text.specs.Texts.{GroupsLoseNothing, grouped_by, most_groups, dollars_text, megawatts_text};
 
 use std::fmt;
-use std::fmt::Write;
 
 // An amount in cents, as dollars: -$4,235.00.
 #[derive(Clone, Copy)]

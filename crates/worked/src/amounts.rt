@@ -1,6 +1,6 @@
 // The amounts that the examples are made of.
 ghost use Rattle.sharing.specs.Shares.{Fair, InRange};
-ghost use Rattle.std.specs.Prelude.{◌≡◌, ◌*◌, ◌^◌, ◌<◌, pos, IfOk, IsOkUnless};
+ghost use Rattle.std.specs.Prelude.{◌*◌, ◌^◌, ◌<◌, pos, IfOk, IsOkUnless};
 ghost use Rattle.std.specs.Result.{OkIff};
 ghost use Rattle.printing.specs.declared.Stop.TheVariants.{TooLarge};
 

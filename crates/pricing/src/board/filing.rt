@@ -6,6 +6,7 @@ use crate::board::interval::Interval;
 use crate::limits::{INTERVALS, MOST_MARKETS, MOST_PRICE};
 use refusals::Refusal;
 
+// A change works on a copy and writes it back whole, so the board is at no time half changed.
 impl Board {
     pub fn new() -> Board
         ensures { result ≡ empty_board }

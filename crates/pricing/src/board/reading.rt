@@ -13,6 +13,7 @@ fn average_of(intervals: [Option<Interval>; INTERVALS]) -> Option<u32>
     ensures value { result ≡ average_of intervals }
     ensures kept { unwrap_or result 0 ≤ most_price }
 {
+    // One pattern for the four, which four times `?` would be no plainer than.
     let [Some(a), Some(b), Some(c), Some(d)] = intervals else {
         return None;
     };
@@ -84,10 +85,6 @@ impl Board {
         ensures value { result ≡ top_price self.now }
         ensures kept { result ≤ most_price }
     {
-        let highest = self.highest_price();
-        match self.average() {
-            Some(average) if average > highest => average,
-            _ => highest,
-        }
+        self.highest_price().max(self.average().unwrap_or(0))
     }
 }

@@ -1,4 +1,5 @@
 ghost use Rattle.std.specs.Prelude.{◌≡◌, ℕ, ◌<◌, ◌≤◌, map, length, pos, Some, None, MatchResult, unsigned_abs};
+ghost use Rattle.roster.specs.Limits.{most_enrolled};
 ghost use Rattle.sharing.specs.Shares.{nth};
 ghost use Rattle.statement.specs.Amounts.{day_ahead_cost, default_rules, net_cost, refused, row_of, rules_of, statement};
 ghost use Rattle.statement.specs.Laws.{most_amount, row_at};
@@ -82,7 +83,8 @@ impl Statement {
 
     // A row for each enrolled QSE, in the order of enrolment.
     pub fn rows(&self) -> &[Row]
-        ensures { result.now ≡ self.now }
+        ensures value { result.now ≡ self.now }
+        ensures few { length result.now ≤ most_enrolled }
     {
         &self.rows[..self.count]
     }
