@@ -42,7 +42,8 @@ pub fn write_statements<W: Write>(
 fn write_head<W: Write>(out: &mut W) -> Result<(), Stop> {
     writeln!(
         out,
-        "                                                            by the running rule             by largest remainder"
+        "{:>79}{:>33}",
+        "by the running rule", "by largest remainder"
     )?;
     write!(out, "    QSE")?;
     for name in COLUMNS {
@@ -61,6 +62,7 @@ fn write_line<W: Write, N: Display + Drop>(
     let blank = "";
     for (cents, column) in cells.iter().zip(&COLUMNS) {
         let amount = Dollars::from(*cents);
+        // The spaces by hand: an amount honours no width, since it would then be written to a buffer first, which can be too short.
         let gap = column.len().max(WIDTH).saturating_sub(amount.width());
         write!(out, " {blank:gap$}{amount}")?;
     }

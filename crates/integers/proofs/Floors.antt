@@ -2,6 +2,7 @@
 use Rattle.std.proofs.Common.{◌≡◌, ℕ, ◌*◌, ◌<◌, ◌≤◌, ℤ, pos, negsuc, ◌+ℤ◌, ◌*ℤ◌, unsigned_abs, ◌≤ℤ◌, ◌<ℤ◌, refl, mul-le-mul_left, arith}
 use Rattle.std.proofs.lemmas.Int.{by_lt_z, ints}
 use Rattle.std.specs.Int.{int_div_euclid, int_rem_euclid}
+-- From below the library's own modules, here and in Products, since it has these under no other name.
 use borrow.Author.Differences.{lt_out}
 
 -- A number is its quotient times the divisor and its remainder, which is below the divisor.

@@ -12,6 +12,7 @@ pub fn total_within(numbers: &[i64], most: u32) -> Option<i64>
 {
     let mut left = u64::from(most);
     let mut total = 0;
+    // A loop with `?`, which `try_fold` over the pair of both numbers would not be plainer than.
     for number in numbers {
         left = left.checked_sub(number.unsigned_abs())?;
         total += number;

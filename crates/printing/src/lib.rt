@@ -25,7 +25,8 @@ pub enum Stop {
     Output(io::Error),
 }
 
-// Display and From are by hand: `thiserror` derives them with no promise of the text or of which error a `?` makes, and `finish` is then not proved.
+// Display and From are by hand: `thiserror` derives them with no promise of the text, on which `finish` rests, or of which error a `?` makes, on which the
+// programs rest.
 impl fmt::Display for Stop {
     ghost output = { stop_text };
 

@@ -41,7 +41,8 @@ fn write_parts(division: &Division, parts: &mut [i64])
     }
 }
 
-// What the members in front have together, where their weights add up to `front`.
+// What the members in front have together, where their weights add up to `front`. Here and below each function says the bound of its own numbers: a type
+// for numbers within a bound would be made and taken apart at each step.
 fn first_parts(division: &Division, front: i64) -> i64
     requires { unsigned_abs front ≤ most_sizes }
     ensures { result ≡ rounded division.now.weight_sum (division.now.total *ℤ front) }

@@ -1,4 +1,6 @@
 // The parts of the two costs, by any sharing rule. They are worked out in tables as long as the longest roster, on the stack: the library uses no heap.
+// Each function says that the table handed to it is as long as the records, and the bound of a number handed to it: a type for records with a table, or for
+// a number within a bound, would be made for each call and taken apart in each function.
 ghost use Rattle.std.specs.Prelude.{◌≡◌, ℕ, ◌+◌, ◌<◌, ◌≤◌, map, length, pos, ◌-ℤ◌, ◌≤ℤ◌, sum_by, ◌≢◌, unsigned_abs};
 ghost use Rattle.integers.specs.Totals.{total_of};
 ghost use Rattle.roster.specs.Records.{arranged};
@@ -95,7 +97,8 @@ impl Hour<'_> {
         write_open(self.records, obligations, weights);
     }
 
-    // Each QSE's part of the net cost.
+    // Each QSE's part of the net cost. It has the frame of `write_charges`: a function for both would take a closure that writes the weights, and say of it
+    // all that each of the two says of its own.
     pub(crate) fn write_cost_shares<S: SharingRule>(&self, cost: i64, shares: &mut [i64])
         requires little { unsigned_abs cost ≤ most_cost }
         requires something { (cost ≢ pos 0) → pos 1 ≤ℤ bought self.now.records.now }

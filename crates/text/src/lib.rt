@@ -110,6 +110,7 @@ impl fmt::Display for Megawatts {
 
     fn fmt<W: fmt::Write>(&self, f: &mut fmt::Formatter<W>) -> fmt::Result {
         let whole = Grouped(u64::from(self.tenths / 10));
+        // The one digit after the point.
         let tenths = self.tenths % 10;
         write!(f, "{whole}.{tenths} MW")
     }

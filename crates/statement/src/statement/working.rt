@@ -54,6 +54,7 @@ impl Hour<'_> {
     {
         let costs = self.write_own_costs::<F, I>(rows);
         self.quantities.check(costs)?;
+        // Tables on the stack, as in shares.rt.
         let mut charges = [0; MOST_ENROLLED];
         let charges = &mut charges[..rows.len()];
         self.write_charges::<S>(costs.ahead, charges);
