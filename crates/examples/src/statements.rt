@@ -110,7 +110,7 @@ fn statements_are_worked_out_as_by_hand(rt: HostRuntime) -> Result<(), Fail> {
     for (price, later, failed, infeasible, seven, nine) in WORKED {
         let mut board = Board::new();
         board.clear(1_000)?;
-        let mut roster = rosters::enrolled()?;
+        let mut roster = enrolled()?;
         if let Some(price) = price {
             board.clear(price)?;
             roster.award(&board, 7, 1, later)?;
@@ -128,7 +128,7 @@ fn statements_are_worked_out_as_by_hand(rt: HostRuntime) -> Result<(), Fail> {
 fn a_net_cost_with_nothing_bought_is_refused(rt: HostRuntime) -> Result<(), Fail> {
     let mut board = Board::new();
     board.clear(1_000)?;
-    let mut roster = rosters::enrolled()?;
+    let mut roster = enrolled()?;
     roster.award(&board, 9, 0, 100)?;
     roster.fail(9, 0, 101)?;
     assert_eq!(rt; refusal_of(&board, &roster), Some(Refusal::NothingBought));
