@@ -31,7 +31,7 @@ impl SharingRule for LargestRemainder {
 
 // Writes the parts; `remainders` is room to work in. That both are as long as the weights is said by each function that writes them: a type for weights
 // with parts would be made anew for each, and as the parts are the caller's, its length would be asked for again.
-// So is the bound of a number, here and below.
+// The bound of a number is said by each function below in the same way: a type for numbers within a bound would be made and taken apart at each step.
 fn write_parts(division: &Division, parts: &mut [i64], remainders: &mut [u32])
     requires long { length parts.old ≡ length division.now.weights.now }
     requires beside { length remainders.old ≡ length division.now.weights.now }

@@ -7,7 +7,8 @@ use crate::board::Board;
 use crate::board::interval::Interval;
 use crate::limits::INTERVALS;
 
-// The average price of the four intervals, none until all are filed. It asks of them what a board keeps: they come by value, and no longer from a board.
+// The average price of the four intervals, none until all are filed. It asks of the four what the type of
+// a board says of them, since it gets them alone.
 fn average_of(intervals: [Option<Interval>; INTERVALS]) -> Option<u32>
     requires { IntervalsKept intervals }
     ensures value { result ≡ average_of intervals }
