@@ -33,5 +33,4 @@ kept board sound =
       few = omega (arith, length-take board.cleared board.prices, sound.table.few);
       low = λ market. low_taken board.prices board.cleared market sound.table.few sound.low;
       low_top = max-le (highest_kept board.prices board.cleared sound.table.few sound.low) (low_average board.intervals sound.fair);
-      fair = sound.fair;
     }

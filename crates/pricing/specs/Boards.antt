@@ -94,10 +94,8 @@ highest prices = fold max 0 prices
 abbrev pub top_price : PlainBoard → ℕ
 top_price board = max (highest board.prices) (unwrap_or (average_of board.intervals) 0)
 
--- What every board keeps: at most eight markets have cleared, no price that is read off it is above the limit, and no sum of an interval's two
--- prices is.
+-- What every board keeps: at most eight markets have cleared, and no price that is read off it is above the limit.
 pub record Kept (board : PlainBoard) : Type 0 where
   pub few : length board.prices ≤ most_markets
   pub low : (market : ℕ) → slice_index board.prices market ≤ most_price
   pub low_top : top_price board ≤ most_price
-  pub fair : IntervalsKept board.intervals

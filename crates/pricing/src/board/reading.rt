@@ -45,6 +45,7 @@ impl Board {
     pub fn prices(&self) -> &[u32]
         ensures value { result.now ≡ self.now.prices }
         ensures kept { Kept self.now }
+        ensures fair { IntervalsKept self.now.intervals }
     {
         &self.prices[..self.cleared]
     }
