@@ -3,7 +3,6 @@ use Rattle.std.proofs.Common.{◌≡◌, ℕ, zero, suc, ◌+◌, ◌*◌, ◌/�
 use Rattle.std.proofs.lemmas.Fmt.{decimal_digit, decimal_step, decimal_by_steps, decimal_nonempty, length-decimal-le}
 use Rattle.std.proofs.lemmas.List.Elements.{filter-append}
 use Rattle.std.proofs.lemmas.Bool.{cases_lt, cond-true, cond-false, lt-ltb, le-ltb, ne_eqb, not_from_false}
-use Rattle.text.proofs.Zeros.{zero_padded, three_written}
 use Rattle.text.specs.Texts.{three_digits, grouped_by, most_groups, without_commas, GroupsLoseNothing}
 
 three_listed : (number : ℕ) → three_digits number ≡ (48 + number / 100 % 10) ∷ (48 + number / 10 % 10) ∷ (48 + number % 10) ∷ []
@@ -54,10 +53,10 @@ room_unused (suc groups) number fits few =
 pub small_written : (number : ℕ) → number < 1000 → grouped_by most_groups number ≡ decimal number
 small_written = one_group 6
 
-pub large_written : (number : ℕ) → 1000 ≤ number → number < 2 ^ 64 → grouped_by most_groups number ≡ grouped_by most_groups (number / 1000) ++ (codes "," ++ zero_padded 3 (number % 1000))
+pub large_written : (number : ℕ) → 1000 ≤ number → number < 2 ^ 64 → grouped_by most_groups number ≡ grouped_by most_groups (number / 1000) ++ (codes "," ++ three_digits number)
 large_written number large fits =
     let few = length-decimal-le 18 (number / 1000) (omega arith) (omega arith) (omega arith) in
-    more_groups 6 number large ∙ sym (λ j. room_unused 6 (number / 1000) (omega arith) few j ++ (codes "," ++ three_written number j))
+    more_groups 6 number large ∙ sym (ap (λ ds. ds ++ (codes "," ++ three_digits number)) (room_unused 6 (number / 1000) (omega arith) few))
 
 -- How long a number of one, two or three digits is, and any other.
 length-digits : (number : ℕ) → 10 ≤ number → number < 2 ^ 64 → length (decimal number) ≡ length (decimal (number / 10)) + 1
@@ -76,7 +75,7 @@ length-three_digits number some small =
 
 pub length-more_groups : (number : ℕ) → 1000 ≤ number → number < 2 ^ 64 → length (grouped_by most_groups number) ≡ length (grouped_by most_groups (number / 1000)) + 4
 length-more_groups number large fits =
-    omega (arith, ap length (large_written number large fits), length-append (grouped_by most_groups (number / 1000)) (codes "," ++ zero_padded 3 (number % 1000)), ap length (three_written number), ap length (three_listed number))
+    omega (arith, ap length (large_written number large fits), length-append (grouped_by most_groups (number / 1000)) (codes "," ++ three_digits number), ap length (three_listed number))
 
 -- No number is longer than its groups, each with a comma.
 pub length-groups-le : (groups number : ℕ) → number < 2 ^ 64 → length (grouped_by groups number) ≤ 4 * groups

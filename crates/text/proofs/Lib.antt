@@ -1,3 +1,2 @@
 mod Groups
 mod Signs
-mod Zeros

@@ -4,7 +4,9 @@
 // and `groups_lose_nothing` that the commas leave every digit in its place.
 #![tactic(auto)]
 
-ghost use Rattle.std.specs.Prelude.{◌≡◌, ◌*◌, ◌≤◌, length, pos, Some};
+ghost use Rattle.std.specs.Fmt.{sign_text};
+ghost use Rattle.std.specs.Int.{is_negative};
+ghost use Rattle.std.specs.Prelude.{◌≡◌, ◌*◌, ◌≤◌, ◌++◌, codes, length, pos, Some};
 ghost use Rattle.text.specs.Texts.{GroupsLoseNothing, grouped_by, most_groups, dollars_text, megawatts_text};
 
 use std::fmt;
@@ -22,13 +24,19 @@ pub struct Megawatts {
 }
 
 impl Dollars {
+    // What stands in front of the digits.
+    fn sign(self) -> &'static str
+        ensures { result.now ≡ sign_text (is_negative self.cents) ++ codes "$" }
+    {
+        if self.cents < 0 { "-$" } else { "$" }
+    }
+
     // How many characters are written of it, for a table with columns.
     pub fn width(self) -> usize
         ensures { result ≡ length (dollars_text self.cents) }
     {
         let whole = Grouped(self.cents.unsigned_abs() / 100);
-        let sign = if self.cents < 0 { "-$" } else { "$" };
-        sign.len() + whole.width() + ".00".len()
+        self.sign().len() + whole.width() + ".00".len()
     }
 }
 
@@ -88,8 +96,11 @@ impl fmt::Display for Grouped {
             return write!(f, "{number}");
         }
         Grouped(number / 1000).fmt(f)?;
-        let last = number % 1000;
-        write!(f, ",{last:03}")
+        // Digit by digit, here and for the cents, and not by `{:03}`: what is left in a writer whose room ends inside an amount is then what it was before.
+        let hundreds = number / 100 % 10;
+        let tens = number / 10 % 10;
+        let ones = number % 10;
+        write!(f, ",{hundreds}{tens}{ones}")
     }
 }
 
@@ -97,11 +108,12 @@ impl fmt::Display for Dollars {
     ghost output = { λ amount. Some (dollars_text amount.cents) };
 
     fn fmt<W: fmt::Write>(&self, f: &mut fmt::Formatter<W>) -> fmt::Result {
-        let sign = if self.cents < 0 { "-" } else { "" };
+        let sign = self.sign();
         let size = self.cents.unsigned_abs();
         let whole = Grouped(size / 100);
-        let cents = size % 100;
-        write!(f, "{sign}${whole}.{cents:02}")
+        let tens = size / 10 % 10;
+        let ones = size % 10;
+        write!(f, "{sign}{whole}.{tens}{ones}")
     }
 }
 
