@@ -9,7 +9,8 @@ ghost use Rattle.defaults.specs.Charges.{Takes, Within, charge_refused, at_top_p
 ghost use Rattle.pricing.specs.Boards.{PlainBoard};
 ghost use Rattle.pricing.specs.Cents.{cents_of};
 ghost use Rattle.refusals.specs.Refused.{Gives};
-ghost use Rattle.std.specs.Prelude.{ℕ};
+ghost use Rattle.std.specs.Fn.{FnOnceReturnsAt};
+ghost use Rattle.std.specs.Prelude.{ℕ, IsOk};
 ghost use Rattle.defaults.specs.Limits.{day_ahead_price_within, top_price_within};
 
 use pricing::board::Board;
@@ -29,9 +30,15 @@ pub trait DefaultRule {
     ghost within: { (board : PlainBoard) (tenths : ℕ) → Takes board tenths → Within board tenths (charge board tenths) };
 }
 
-// What a quantity is charged at a price, where a default rule takes it.
-fn charged_at(price: u32, board: &Board, tenths: u32) -> Result<u64, Refusal>
-    ensures { Gives (charge_refused board.now tenths) (cents_of price tenths) result }
+// What a quantity is charged at a price that is read off the board, where a default rule takes it. It takes how the price is read, and not the price, so that
+// a refused charge reads none.
+fn charged_at<P: FnOnce(&Board) -> u32>(
+    price: P,
+    board: &Board,
+    tenths: u32,
+) -> Result<u64, Refusal>
+    requires { P.IsAlwaysCallable price }
+    ensures { (read : ℕ) × Gives (charge_refused board.now tenths) (cents_of read tenths) result × (IsOk result → FnOnceReturnsAt P.FnOnce price board.now read) }
 {
     if tenths > MOST_QUANTITY {
         return Err(Refusal::QuantityAboveLimit);
@@ -39,7 +46,7 @@ fn charged_at(price: u32, board: &Board, tenths: u32) -> Result<u64, Refusal>
     if board.cleared() == 0 {
         return Err(Refusal::DayAheadNotCleared);
     }
-    Ok(cents(price, tenths))
+    Ok(cents(price(board), tenths))
 }
 
 pub struct Highest;
@@ -50,7 +57,7 @@ impl DefaultRule for Highest {
     ghost within = { top_price_within };
 
     fn charged(board: &Board, tenths: u32) -> Result<u64, Refusal> {
-        charged_at(board.top_price(), board, tenths)
+        charged_at(Board::top_price, board, tenths)
     }
 }
 
@@ -62,6 +69,6 @@ impl DefaultRule for DayAhead {
     ghost within = { day_ahead_price_within };
 
     fn charged(board: &Board, tenths: u32) -> Result<u64, Refusal> {
-        charged_at(board.day_ahead_price(), board, tenths)
+        charged_at(Board::day_ahead_price, board, tenths)
     }
 }
