@@ -10,7 +10,7 @@ use Rattle.roster.specs.Filing.{changed, not_enrolled}
 use Rattle.roster.specs.Records.{Kept, enrolments, how_many_above, arranged_above, too_much}
 use Rattle.roster.specs.Working.{FilesMade, Found, Tries}
 use Rattle.roster.specs.declared.records.Record.{Record}
-use Rattle.roster.proofs.Invariants.{above_set}
+use Rattle.roster.proofs.Totals.{above_set}
 use Rattle.roster.proofs.Numbers.{enrolled, is_set}
 
 -- What is added up over the roster stays as it was, where a change leaves alone what each record adds.

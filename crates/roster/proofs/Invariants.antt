@@ -2,11 +2,11 @@
 use Rattle.std.proofs.Common.{◌≡◌, ℕ, ◌+◌, ◌<◌, ◌≤◌, false, if◌then◌else◌, List, [], ◌∷◌, ◌++◌, length, get_or, set, take, Ok, sym, refl, ◌∙◌, subst, arith}
 use Rattle.std.proofs.Math.Seq.{take-set-lt}
 use Rattle.std.proofs.lemmas.List.{get_or-take, length-set, length_push, take_more_set}
-use Rattle.std.proofs.lemmas.List.Sums.{sum_by-set, sum_by_push, get_or-le-sum_by}
+use Rattle.std.proofs.lemmas.List.Sums.{sum_by_push}
 use Rattle.std.proofs.lemmas.Bool.{cond-false, le-ltb}
 use Rattle.tables.proofs.Entries.{count_back, table_push, table_set}
 use Rattle.roster.specs.Limits.{most_enrolled}
-use Rattle.roster.specs.Records.{Kept, arranged_above, enrolments, how_many_above, one_above, too_much, totals_of}
+use Rattle.roster.specs.Records.{Kept, arranged_above, enrolments, one_above, too_much, totals_of}
 use Rattle.roster.specs.Filing.{blank, newcomer}
 use Rattle.roster.specs.Views.{Sound, plain}
 use Rattle.roster.specs.Working.{Files, GivesUnless, totals_with}
@@ -14,14 +14,7 @@ use Rattle.roster.specs.declared.records.Record.{Record}
 use Rattle.roster.specs.declared.records.Totals.{Totals}
 use Rattle.roster.specs.declared.roster.Roster.TheInside.{Inside}
 use Rattle.roster.proofs.Numbers.{enrolments_set, enrolments_pushed, numbered_pushed}
-use Rattle.roster.proofs.Totals.{totals_set, totals_pushed}
-
--- Where nobody arranged above its obligation, only the new record can.
-pub above_set : (records : List Record) (place : ℕ) (new : Record) → place < length records → how_many_above records ≡ 0
-    → how_many_above (set records place new) ≡ (if arranged_above new then 1 else 0)
-above_set records place new inside none =
-    let one : Record → ℕ = λ r. if arranged_above r then 1 else 0 in
-    omega (arith, none, sum_by-set one records place new blank inside, get_or-le-sum_by one records place blank inside)
+use Rattle.roster.proofs.Totals.{above_set, totals_set, totals_pushed}
 
 kept_set : (records : List Record) (place : ℕ) (new : Record) → Kept records → place < length records → new.qse ≡ (get_or records place blank).qse → arranged_above new ≡ false
     → too_much (set records place new) ≡ false → Kept (set records place new)

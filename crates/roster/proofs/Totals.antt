@@ -1,8 +1,8 @@
--- The totals with one record in the place of another, and with one more.
-use Rattle.std.proofs.Common.{◌≡◌, ℕ, ◌+◌, ◌-◌, ◌<◌, false, List, [], ◌∷◌, ◌++◌, length, get_or, set, sum_by, refl, arith}
+-- The totals with one record in the place of another, and with one more; and how many then arranged above their obligation.
+use Rattle.std.proofs.Common.{◌≡◌, ℕ, ◌+◌, ◌-◌, ◌<◌, false, if◌then◌else◌, List, [], ◌∷◌, ◌++◌, length, get_or, set, sum_by, refl, arith}
 use Rattle.std.proofs.lemmas.Bool.{or_parts}
 use Rattle.std.proofs.lemmas.List.Sums.{sum_by-set, sum_by_push, get_or-le-sum_by}
-use Rattle.roster.specs.Records.{awarded, arranged, defaulted, totals_of, above, too_much}
+use Rattle.roster.specs.Records.{awarded, arranged, arranged_above, defaulted, how_many_above, totals_of, above, too_much}
 use Rattle.roster.specs.Working.{totals_with}
 use Rattle.roster.specs.Filing.{blank, newcomer}
 use Rattle.roster.specs.declared.records.Record.{Record}
@@ -20,6 +20,13 @@ totals_set records place new inside =
 
 pub totals_pushed : (records : List Record) (new : Record) → totals_with (totals_of records) (newcomer 0 0 0) new ≡ totals_of (records ++ new ∷ [])
 totals_pushed records new = totals_become records (records ++ new ∷ []) (newcomer 0 0 0) new (λ f none. omega (arith, none, sum_by_push f records new))
+
+-- Where nobody arranged above its obligation, only the new record can.
+pub above_set : (records : List Record) (place : ℕ) (new : Record) → place < length records → how_many_above records ≡ 0
+    → how_many_above (set records place new) ≡ (if arranged_above new then 1 else 0)
+above_set records place new inside none =
+    let one : Record → ℕ = λ r. if arranged_above r then 1 else 0 in
+    omega (arith, none, sum_by-set one records place new blank inside, get_or-le-sum_by one records place blank inside)
 
 -- The five totals, each within the limit. No proof of this crate needs it; those of the statement do.
 pub record Below (records : List Record) : Type 0 where

@@ -2,6 +2,7 @@ ghost use Rattle.roster.specs.Limits.{kinds};
 ghost use Rattle.roster.specs.Sides.{Names, number_of_kind, kind_text};
 ghost use Rattle.std.specs.Prelude.{◌≡◌, Some};
 
+use crate::limits::KINDS;
 use refusals::Refusal;
 use std::fmt;
 
@@ -11,6 +12,8 @@ pub enum Kind {
     Failed,
     Infeasible,
 }
+
+const _: () = prove!(Kind::Infeasible as usize + 1 == KINDS);
 
 impl TryFrom<usize> for Kind {
     type Error = Refusal;

@@ -2,6 +2,7 @@ ghost use Rattle.roster.specs.Limits.{sides};
 ghost use Rattle.roster.specs.Sides.{Names, number_of_side, side_text};
 ghost use Rattle.std.specs.Prelude.{◌≡◌, Some};
 
+use crate::limits::SIDES;
 use refusals::Refusal;
 use std::fmt;
 
@@ -11,6 +12,8 @@ pub enum Side {
     DayAhead,
     Later,
 }
+
+const _: () = prove!(Side::Later as usize + 1 == SIDES);
 
 impl TryFrom<usize> for Side {
     type Error = Refusal;

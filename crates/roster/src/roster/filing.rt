@@ -35,7 +35,9 @@ impl Roster {
         }
     }
 
-    // Puts a record in the place of another, where the roster still keeps its limits.
+    // Puts a record in the place of another, where the roster still keeps its limits. Always inlined: the record comes by value out of a change, and a call
+    // would copy it once more.
+    #[inline(always)]
     fn file(&mut self, place: usize, new: Record) -> Result<(), Refusal>
         requires place { place < length self.old }
         requires same_qse { new.qse ≡ (slice_index_or self.old place blank).qse }

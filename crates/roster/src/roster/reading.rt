@@ -13,8 +13,10 @@ impl Roster {
         &self.records[..self.count]
     }
 
+    // The totals over the roster, each within its limit.
     pub fn totals(&self) -> Totals
-        ensures { result ≡ totals_of self.now }
+        ensures value { result ≡ totals_of self.now }
+        ensures kept { Kept self.now }
     {
         self.totals
     }

@@ -17,7 +17,7 @@ pub overflow_sub-result : goal.overflow_sub-result
 overflow_sub-result c =
     let records = c.records-records.result.now in
     let ahead : c.sum-arranged.result ≡ sum_by (λ (r : Record). r.arranged.ahead) records = search rules in
-    let obligations = rw (← c.records-records.ensures.value) at (ap (λ (t : Totals). t.obligations) c.totals-totals.ensures) in
+    let obligations = rw (← c.records-records.ensures.value) at (ap (λ (t : Totals). t.obligations) c.totals-totals.ensures.value) in
     omega (arith, ahead, obligations, covered records c.records-records.ensures.kept.covered)
 
 pub returns : goal.returns
@@ -27,7 +27,7 @@ returns c =
     let keeps : Kept records = rw same at c.records-records.ensures.kept in
     let ahead : c.sum-arranged.result ≡ sum_by (λ (r : Record). r.arranged.ahead) c.records-records.result.now = search rules in
     let failed : c.sum-failed.result ≡ sum_by (λ (r : Record). r.failed) c.records-records.result.now = search rules in
-    let totals = c.totals-totals.ensures in
+    let totals = c.totals-totals.ensures.value in
     let small = limits records keeps in
     let awards = ap (λ (t : Totals). t.awards) totals in
     let few_failed = failed_small records keeps in
