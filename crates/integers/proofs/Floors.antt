@@ -32,7 +32,7 @@ floor_size (pos a) (pos b) positive = omega arith
 floor_size (negsuc a) (pos b) positive = omega arith
 
 -- Where b times x lies less than b above b times y, x is at most y.
-cancel : (b x y : ℤ) → pos 1 ≤ℤ b → (b *ℤ x) <ℤ (b *ℤ y +ℤ b) → x ≤ℤ y
+pub cancel : (b x y : ℤ) → pos 1 ≤ℤ b → (b *ℤ x) <ℤ (b *ℤ y +ℤ b) → x ≤ℤ y
 cancel (negsuc b) x y positive less = absurd positive.le
 cancel (pos b) x y positive less = by_lt_z y x (λ above. absurd (omega (arith, ints, mul-le-mul_left b (lt_out y x above)))) (λ within. within)
 

@@ -1,1 +1,1 @@
-mod RoundedDown
+pub mod RoundedDown

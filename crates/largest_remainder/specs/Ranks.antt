@@ -25,7 +25,7 @@ above_to x r less y = (grind (arith, nat_tests), grind (arith, nat_tests))
 
 module _ (x : ℕ) (xs : List ℕ) (k : ℕ) (inside : k < length xs) where
   -- Where the member at k has more than x, fewer come before it than have more than x: itself is one of those.
-  ahead_under : x < slice_index xs k → ahead_of xs k < count_by (nat_lt x) xs
+  pub ahead_under : x < slice_index xs k → ahead_of xs k < count_by (nat_lt x) xs
   ahead_under more =
       let r = slice_index xs k in
       let earlier = sum_by-le-sum_by (λ y. one_if (nat_le r y)) (λ y. one_if (nat_lt x y)) (take k xs) (λ y. (above_from x r more y).0) in
