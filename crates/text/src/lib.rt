@@ -96,7 +96,8 @@ impl fmt::Display for Grouped {
             return write!(f, "{number}");
         }
         Grouped(number / 1000).fmt(f)?;
-        // Digit by digit, here and for the cents, and not by `{:03}`: what is left in a writer whose room ends inside an amount is then what it was before.
+        // Digit by digit, here and for the cents, and not by `{:03}`, which hands all digits to the writer in one piece: a writer whose room ends inside a
+        // number takes the digits that fit.
         let hundreds = number / 100 % 10;
         let tens = number / 10 % 10;
         let ones = number % 10;
