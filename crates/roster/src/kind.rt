@@ -13,6 +13,7 @@ pub enum Kind {
     Infeasible,
 }
 
+// The constant counts the kinds; by a cast, as below.
 const _: () = prove!(Kind::Infeasible as usize + 1 == KINDS);
 
 impl TryFrom<usize> for Kind {

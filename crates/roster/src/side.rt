@@ -13,6 +13,7 @@ pub enum Side {
     Later,
 }
 
+// The constant counts the sides; by a cast, as below.
 const _: () = prove!(Side::Later as usize + 1 == SIDES);
 
 impl TryFrom<usize> for Side {
