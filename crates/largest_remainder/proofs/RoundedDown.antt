@@ -11,6 +11,7 @@ use Rattle.sharing.specs.declared.Division.{Division}
 use Rattle.largest_remainder.specs.Largest.{floor_of, floors, all_remainders}
 use Rattle.largest_remainder.specs.Laws.{all_under}
 
+-- The parts rounded down: their sizes together are at most the size of the total times the sizes of the weights.
 pub size-floors : (total W : ℤ) (weights : List ℤ) → pos 1 ≤ℤ W → size_of (map (floor_of total W) weights) ≤ unsigned_abs total * size_of weights
 unfolding floor_of
 size-floors total W [] positive = omega arith
